@@ -1,0 +1,148 @@
+-- How a text is held: its bytes, the zeros after them, and its size.
+use mathlib.Core.List.{List, [], _∷_, _++_}
+use mathlib.Core.Logic.{⊎-elim}
+use mathlib.Core.Path.{_≡_, refl, sym, ap, _∙_}
+use Prim.Native.Nat.{ℕ, zero, suc, _+_, _-_, _*_, _/_, _%_, _^_, _<_, _≤_}
+use native.Mathlib.Nat.{pow-suc, pow-succ', mul-assoc, zero-div, zero-mod}
+use borrow.Rule.Slice.PartMut.{putMid}
+use native.Mathlib.Omega.{arith}
+use lib.Arith.{mod-mul}
+use lib.ListN.{length, take, drop, getD, replicate}
+use Rattle.std.proofs.shelf.Bits.{div-mul-add, mod-mul-add, div-add-mod', mod-below}
+use Rattle.std.proofs.shelf.Lists.{drop-replicate}
+use Rattle.std.proofs.shelf.Tests.{cases-lt}
+use Rattle.keys.specs.PlateWord.{word-of, text-of, padded}
+use Rattle.keys.proofs.PlateWords.{bytes-pos, text-none, text-more}
+
+-- a zero byte at the end adds nothing to a text
+pub text-shift : (n v : ℕ) → v < 256 ^ n → text-of (suc n) (v * 256) ≡ text-of n v
+text-shift zero v h = text-none 1 (v * 256) (omega arith) ∙ sym (text-none zero v (omega arith))
+text-shift (suc n) v h =
+    let k = 256 ^ n in
+    let q = v / k in
+    let r = v % k in
+    let l : r < k = mod-below v k (bytes-pos n) in
+    let e : v * 256 ≡ q * 256 ^ suc n + r * 256 = omega (arith, div-add-mod' v k, mul-assoc q k 256, ap (λ x. q * x) (pow-suc 256 n)) in
+    let s : r * 256 < 256 ^ suc n = omega (arith, pow-suc 256 n) in
+    let d : v * 256 / 256 ^ suc n ≡ q = ap (λ x. x / 256 ^ suc n) e ∙ div-mul-add q (256 ^ suc n) (r * 256) s in
+    let m : v * 256 % 256 ^ suc n ≡ r * 256 = ap (λ x. x % 256 ^ suc n) e ∙ mod-mul-add q (256 ^ suc n) (r * 256) s in
+    ⊎-elim
+    (λ (some : 0 < v).
+    text-more (suc n) (v * 256) (omega arith) ∙ (λ i. d i ∷ text-of (suc n) (m i)) ∙ ap (λ t. q ∷ t) (text-shift n r l) ∙ sym (text-more n v some))
+    (λ (none : v ≤ 0). text-none (suc (suc n)) (v * 256) (omega arith) ∙ sym (text-none (suc n) v (omega arith)))
+    (cases-lt 0 v)
+
+-- a word that ends in a byte above 0 has a text of full length
+pub text-full : (n w : ℕ) → 0 < w % 256 → length (text-of n w) ≡ n
+unfolding text-of
+text-full zero w h = refl
+text-full (suc zero) w h = ap length (text-more zero w (omega arith))
+text-full (suc (suc n)) w h =
+    let k = 256 ^ suc n in
+    let q = w / k in
+    let e : w % k % 256 ≡ w % 256 = omega (arith, div-add-mod' w k, mul-assoc q (256 ^ n) 256, ap (λ x. q * x) (pow-suc 256 n)) in
+    ap length (text-more (suc n) w (omega arith)) ∙ ap suc (text-full (suc n) (w % k) (omega arith))
+
+-- one turn of a loop that drops zero bytes at the end
+pub text-cut : (m n r : ℕ) → n ≡ suc m → r < 256 ^ n → r % 256 ≡ 0 → (r / 256 < 256 ^ m) × (text-of m (r / 256) ≡ text-of n r)
+text-cut m n r e h z =
+    let s : r / 256 < 256 ^ m = omega (arith, ap (λ x. 256 ^ x) e, pow-suc 256 m) in
+    let t : r / 256 * 256 ≡ r = omega arith in
+    (s, sym (text-shift m (r / 256) s) ∙ ap (text-of (suc m)) t ∙ ap (λ x. text-of x r) (sym e))
+
+pub length-text : (n w : ℕ) → length (text-of n w) ≤ n
+unfolding text-of
+length-text zero w = omega arith
+length-text (suc n) w =
+    ⊎-elim
+    (λ (some : 0 < w). omega (arith, ap length (text-more n w some), length-text n (w % 256 ^ n)))
+    (λ (none : w ≤ 0). omega (arith, ap length (text-none (suc n) w (omega arith))))
+    (cases-lt 0 w)
+
+-- a text with its zeros is the bytes of its word
+padded-more : (n w : ℕ) → padded (suc n) (text-of (suc n) w) ≡ w / 256 ^ n ∷ padded n (text-of n (w % 256 ^ n))
+unfolding padded
+padded-more n w =
+    let k = 256 ^ n in
+    ⊎-elim
+    (λ (some : 0 < w). ap (padded (suc n)) (text-more n w some))
+    (λ (none : w ≤ 0).
+    let z : w ≡ 0 = omega arith in
+    let q : 0 ≡ w / k = sym (ap (λ x. x / k) z ∙ zero-div k) in
+    let r : w % k ≡ 0 = ap (λ x. x % k) z ∙ zero-mod k in
+    ap (padded (suc n)) (text-none (suc n) w z) ∙ (λ i. q i ∷ padded n (sym (text-none n (w % k) r) i)))
+    (cases-lt 0 w)
+
+-- the low n bytes of a word, highest first
+abbrev pub low-bytes : ℕ → ℕ → List ℕ
+low-bytes zero w = []
+low-bytes (suc n) w = (w / 256 ^ n % 256) ∷ low-bytes n w
+
+padded-low : (n w : ℕ) → padded n (text-of n (w % 256 ^ n)) ≡ low-bytes n w
+unfolding padded
+padded-low zero w = refl
+padded-low (suc n) w =
+    let k = 256 ^ n in
+    let b = w / k % 256 in
+    let l : w % k < k = mod-below w k (bytes-pos n) in
+    let e : w % 256 ^ suc n ≡ b * k + w % k = ap (λ x. w % x) (pow-succ' 256 n) ∙ mod-mul w {m = 256} {c = k} (omega arith) (bytes-pos n) in
+    let d : w % 256 ^ suc n / k ≡ b = ap (λ x. x / k) e ∙ div-mul-add b k (w % k) l in
+    let m : w % 256 ^ suc n % k ≡ w % k = ap (λ x. x % k) e ∙ mod-mul-add b k (w % k) l in
+    padded-more n (w % 256 ^ suc n) ∙ (λ i. d i ∷ padded n (text-of n (m i))) ∙ ap (λ t. b ∷ t) (padded-low n w)
+
+pub padded-text : (w : ℕ) → w < 2 ^ 56
+    → padded 7 (text-of 7 w)
+    ≡ (w / 281474976710656 % 256) ∷ (w / 1099511627776 % 256) ∷ (w / 4294967296 % 256) ∷ (w / 16777216 % 256) ∷ (w / 65536 % 256) ∷ (w / 256 % 256) ∷ (w % 256) ∷ []
+padded-text w h =
+    let e : w ≡ w % 256 ^ 7 = omega arith in
+    let last : w / 256 ^ 0 % 256 ≡ w % 256 = omega arith in
+    ap (λ x. padded 7 (text-of 7 x)) e ∙ padded-low 7 w
+    ∙ ap (λ b. (w / 281474976710656 % 256) ∷ (w / 1099511627776 % 256) ∷ (w / 4294967296 % 256) ∷ (w / 16777216 % 256) ∷ (w / 65536 % 256) ∷ (w / 256 % 256) ∷ b ∷ []) last
+
+-- a text is seen whole before the zeros
+pub shown-text : (n : ℕ) (bs : List ℕ) → length bs ≤ n → take (length bs) (padded n bs) ≡ bs
+unfolding padded
+shown-text zero [] h = refl
+shown-text zero (b ∷ bs) h = let f : ⊥ = omega arith in absurd f
+shown-text (suc n) [] h = refl
+shown-text (suc n) (b ∷ bs) h = ap (λ t. b ∷ t) (shown-text n bs (omega arith))
+
+-- a byte past a text is 0, with zeros after the text or without
+zeros-past : (m i : ℕ) → _≡_ {A = ℕ} (getD (replicate m 0) i 0) 0
+zeros-past zero i = refl
+zeros-past (suc m) zero = refl
+zeros-past (suc m) (suc i) = zeros-past m i
+
+getD-zeros : (bs : List ℕ) (m i : ℕ) → getD (bs ++ replicate m 0) i 0 ≡ getD bs i 0
+getD-zeros [] m i = zeros-past m i
+getD-zeros (b ∷ bs) m zero = refl
+getD-zeros (b ∷ bs) m (suc i) = getD-zeros bs m i
+
+word-none : (n : ℕ) → word-of n [] ≡ 0
+unfolding word-of
+word-none zero = refl
+word-none (suc n) = refl
+
+word-at : (n i : ℕ) (bs : List ℕ) → word-of (suc n) (drop i bs) ≡ getD bs i 0 * 256 ^ n + word-of n (drop (suc i) bs)
+unfolding word-of
+word-at n zero [] = omega (arith, word-none n)
+word-at n zero (b ∷ bs) = refl
+word-at n (suc i) [] = omega (arith, word-none n)
+word-at n (suc i) (b ∷ bs) = word-at n i bs
+
+-- the number that eight bytes spell
+abbrev pub eight : List ℕ → ℕ
+eight b =
+    getD b 0 0 * 72057594037927936 + getD b 1 0 * 281474976710656 + getD b 2 0 * 1099511627776 + getD b 3 0 * 4294967296
+    + getD b 4 0 * 16777216 + getD b 5 0 * 65536 + getD b 6 0 * 256 + getD b 7 0
+
+word-eight : (bs : List ℕ) → eight (0 ∷ bs) ≡ word-of 7 bs
+unfolding word-of
+word-eight bs = omega (arith, word-at 6 0 bs, word-at 5 1 bs, word-at 4 2 bs, word-at 3 3 bs, word-at 2 4 bs, word-at 1 5 bs, word-at 0 6 bs)
+
+-- bytes written behind the first of eight zeros spell their word
+pub written-eight : (bs : List ℕ) (k : ℕ) → eight (putMid 1 k (replicate 8 0) bs) ≡ word-of 7 bs
+written-eight bs k =
+    let z = getD-zeros bs (7 - k) in
+    ap (λ t. eight (0 ∷ (bs ++ t))) (drop-replicate k 7 0)
+    ∙ omega (arith, word-eight bs, z 0, z 1, z 2, z 3, z 4, z 5, z 6)

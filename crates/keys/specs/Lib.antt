@@ -1,0 +1,4 @@
+pub mod Order
+pub mod Refusals
+pub mod PlaceWord
+pub mod PlateWord

@@ -1,0 +1,12 @@
+pub mod Numbers
+pub mod ValueWord
+pub mod Layout
+pub mod Fields
+pub mod Search
+pub mod Moves
+pub mod Locate
+pub mod Act
+pub mod Split
+pub mod Plan
+pub mod Settle
+pub mod Rows
