@@ -3,5 +3,6 @@ pub mod Lexical
 pub mod PlaceWords
 pub mod PlateWords
 pub mod PlateOrder
-pub mod PlateTexts
+pub mod PlateSizes
+pub mod PlateBytes
 pub mod PlateTrips

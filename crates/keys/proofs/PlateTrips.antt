@@ -1,16 +1,15 @@
 -- There and back: a plate from its word, and a word from its plate.
-use mathlib.Core.Bool.{true, _&&_}
+use mathlib.Core.Bool.{true}
 use mathlib.Core.List.{List}
 use mathlib.Core.Path.{_≡_, sym, ap, subst, _∙_}
 use Prim.Native.Nat.{ℕ, _<_, _≤_}
-use native.Mathlib.Omega.{arith}
-use lib.Dec.{ltb}
 use lib.ListN.{length}
 use Rattle.std.proofs.shelf.Tests.{and-parts, and-from, lt-ltb, ltb-true, leb-true, cond-true}
 use Rattle.std.specs.declared.result.Result.the-variants.{Ok, Err}
 use Rattle.keys.specs.PlateWord.{length-good, bytes-good, plate-word, plate-text, plate-key, plate-made, plate-parts, held, shown, Shows}
 use Rattle.keys.specs.declared.refusal.Refusal.the-variants.{NotAKey}
-use Rattle.keys.proofs.PlateTexts.{length-text, shown-text}
+use Rattle.keys.proofs.PlateBytes.{shown-text}
+use Rattle.keys.proofs.PlateSizes.{length-text}
 use Rattle.keys.proofs.PlateWords.{word-small, text-back, word-back}
 
 module _ (bs : List ℕ) (hl : length-good (length bs) ≡ true) (hb : bytes-good bs ≡ true) where

@@ -1,15 +1,16 @@
 -- A text comes back from its word, and a word from its text.
-use mathlib.Core.Bool.{Bool, true, false, cond, _&&_, _||_}
+use mathlib.Core.Bool.{true, false, _&&_}
 use mathlib.Core.List.{List, [], _∷_}
 use mathlib.Core.Logic.{⊎-elim}
 use mathlib.Core.Path.{_≡_, refl, sym, ap, _∙_}
 use Prim.Native.Nat.{ℕ, zero, suc, _+_, _*_, _/_, _%_, _^_, _<_, _≤_}
 use native.Mathlib.Nat.{pow-suc, mul-le-mul-right}
 use native.Mathlib.Omega.{arith}
-use lib.Dec.{ltb, leb, eqb}
-use lib.ListN.{length, take, drop, getD}
+use lib.Dec.{eqb}
+use lib.ListN.{length, getD, drop}
 use Rattle.std.proofs.shelf.Bits.{mul-add-lt, div-mul-add, mod-mul-add, div-add-mod', mod-below}
-use Rattle.std.proofs.shelf.Tests.{and-parts, eq-eqb, ne-eqb, lt-ltb, le-ltb, cond-true, cond-false, cases-lt}
+use Rattle.std.proofs.shelf.Lists.{at-drop-more}
+use Rattle.std.proofs.shelf.Tests.{and-parts, eq-eqb, ne-eqb, cond-true, cond-false, cases-lt}
 use Rattle.std.proofs.shelf.Ways.{tells}
 use Rattle.keys.specs.PlateWord.{byte-good, bytes-good, word-of, text-of}
 
@@ -46,6 +47,11 @@ text-back (suc n) (b ∷ bs) l h =
     cond-false (eqb (b * k + r) 0) [] ((b * k + r) / k ∷ text-of n ((b * k + r) % k)) some
     ∙ (λ i. div-mul-add b k r s i ∷ text-of n (mod-mul-add b k r s i))
     ∙ ap (λ t. b ∷ t) (text-back n bs (omega arith) (g .1))
+
+-- the bytes from i on are good if byte i is and those behind it are
+pub bytes-more : (bs : List ℕ) (i : ℕ) → i < length bs → bytes-good (drop i bs) ≡ (byte-good (getD bs i 0) && bytes-good (drop (i + 1) bs))
+unfolding bytes-good
+bytes-more bs i h = at-drop-more bytes-good bs i 0 h
 
 -- the text of 0, and of a word above 0
 pub text-none : (n w : ℕ) → w ≡ 0 → text-of n w ≡ []

@@ -1,6 +1,6 @@
 -- Places as words: the level mod 256 in the byte from 2 ^ 24, the zone in the byte from 2 ^ 16, the place in the 16 bits below.
 use mathlib.Core.Bool.{Bool, true, false, cond, _&&_}
-use Prim.Native.Nat.{ℕ, _+_, _-_, _*_, _/_, _%_}
+use Prim.Native.Nat.{ℕ, _+_, _-_, _*_, _/_, _%_, _^_}
 use lib.Dec.{ltb, leb}
 use lib.IntN.{ℤ, pos, negsuc}
 use lib.Signed.{ltZ, leZ}
@@ -41,7 +41,7 @@ parts-of w = record { level = byte-level (w / 16777216 % 256); zone = w / 65536 
 
 -- A word of 32 bits is a key when each of its parts is good.
 abbrev pub place-key : ℕ → Bool
-place-key w = ltb w 4294967296 && level-good (parts-of w .level) && zone-good (parts-of w .zone) && place-good (parts-of w .place)
+place-key w = ltb w (2 ^ 32) && level-good (parts-of w .level) && zone-good (parts-of w .zone) && place-good (parts-of w .place)
 
 -- Parts are ordered by signed level, then by zone, then by place.
 abbrev pub parts-before : PlaceParts → PlaceParts → Bool

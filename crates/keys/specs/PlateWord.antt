@@ -51,7 +51,7 @@ plate-text w = text-of 7 w
 
 -- A word of 56 bits is a key when its bytes, without the zeros at their end, are a plate.
 abbrev pub plate-key : ℕ → Bool
-plate-key w = ltb w 72057594037927936 && length-good (length (plate-text w)) && bytes-good (plate-text w)
+plate-key w = ltb w (2 ^ 56) && length-good (length (plate-text w)) && bytes-good (plate-text w)
 
 -- Texts are ordered byte by byte from the left, and a text comes before its own extensions.
 unfoldable pub text-before : List ℕ → List ℕ → Bool
@@ -79,7 +79,7 @@ shown t = take (t .size) (t .bytes)
 abbrev pub plate-parts : ℕ → Result PlateText Refusal
 plate-parts w = cond (plate-key w) (Ok (held (plate-text w))) (Err NotAKey)
 
--- What comes apart shows these bytes.
+-- A word came apart into a text with these bytes.
 abbrev pub Shows : List ℕ → Result PlateText Refusal → Type 0
 Shows bs (Ok t) = shown t ≡ bs
 Shows bs (Err e) = ⊥

@@ -11,9 +11,11 @@ pub trait KeyKind {
 
     law lawful: { Lawful key before };
 
+    // Whether a word is a key.
     fn is_key(w: u64) -> bool
         ensures { λ r. ⌜ r ≡ key w ⌝ };
 
+    // Whether the key a comes before the key b.
     fn comes_before(a: u64, b: u64) -> bool
         ensures { λ r. ⌜ r ≡ before a b ⌝ };
 }

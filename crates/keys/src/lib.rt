@@ -3,6 +3,5 @@ pub mod kind;
 pub mod place;
 pub mod plate;
 pub mod refusal;
-
 #[cfg(test)]
 mod tests;

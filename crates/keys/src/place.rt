@@ -2,21 +2,21 @@
 ghost use mathlib.Core.Path.{_≡_};
 ghost use Rattle.std.specs.Vec.{made};
 ghost use Rattle.std.specs.declared.result.Result.the-variants.{Ok};
-ghost use Rattle.keys.specs.PlaceWord.{level-good, zone-good, place-good, place-key, place-before, place-made, place-parts, parts-of};
+ghost use Rattle.keys.specs.PlaceWord.{level-good, zone-good, place-good, place-key, place-before, place-made, place-parts, parts-of, parts-before};
 use crate::kind::KeyKind;
 use crate::refusal::Refusal;
 
-// What a place key is made of. Wide enough for any number that a caller may have read.
+// The kind of place keys.
+#[derive(Clone, Copy)]
+pub struct Place;
+
+// What a place key is made of. The types are wide, so that whatever numbers a caller has read can be asked for, and refused.
 #[derive(Clone, Copy, PartialEq, Eq, Debug)]
 pub struct PlaceParts {
     pub level: i32,
     pub zone: u32,
     pub place: u32,
 }
-
-// The kind of place keys.
-#[derive(Clone, Copy)]
-pub struct Place;
 
 fn is_level(level: i32) -> bool
     ensures { λ r. ⌜ r ≡ level-good level ⌝ }
@@ -47,6 +47,19 @@ fn parts_of(w: u64) -> PlaceParts
     }
 }
 
+// By level, then by zone, then by place.
+fn parts_before(a: PlaceParts, b: PlaceParts) -> bool
+    ensures { λ r. ⌜ r ≡ parts-before a b ⌝ }
+{
+    if a.level != b.level {
+        return a.level < b.level;
+    }
+    if a.zone != b.zone {
+        return a.zone < b.zone;
+    }
+    a.place < b.place
+}
+
 pub impl KeyKind for Place as PlaceKeyKind {
     ghost key = { place-key };
 
@@ -58,19 +71,12 @@ pub impl KeyKind for Place as PlaceKeyKind {
     }
 
     fn comes_before(a: u64, b: u64) -> bool {
-        let (a, b) = (parts_of(a), parts_of(b));
-        if a.level != b.level {
-            return a.level < b.level;
-        }
-        if a.zone != b.zone {
-            return a.zone < b.zone;
-        }
-        a.place < b.place
+        parts_before(parts_of(a), parts_of(b))
     }
 }
 
 impl Place {
-    // The key of a place.
+    // The key of a place, which comes apart into its parts again.
     pub fn make(parts: PlaceParts) -> Result<u64, Refusal>
         ensures value { λ r. ⌜ r ≡ place-made parts ⌝ }
         ensures same { λ r. ⌜ made r (λ w. place-parts w ≡ Ok parts) ⌝ }
@@ -88,7 +94,7 @@ impl Place {
         Ok((level as u64) << 24 | (parts.zone as u64) << 16 | parts.place as u64)
     }
 
-    // The place of a key.
+    // The place of a key, which makes that key again.
     pub fn parts(w: u64) -> Result<PlaceParts, Refusal>
         ensures value { λ r. ⌜ r ≡ place-parts w ⌝ }
         ensures same { λ r. ⌜ made r (λ p. place-made p ≡ Ok w) ⌝ }

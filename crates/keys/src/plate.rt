@@ -4,9 +4,16 @@ ghost use Prim.Native.Nat.{_^_, _<_};
 ghost use lib.ListN.{length};
 ghost use Rattle.std.specs.Vec.{made};
 ghost use Rattle.std.specs.declared.result.Result.the-variants.{Ok};
-ghost use Rattle.keys.specs.PlateWord.{length-good, byte-good, bytes-good, plate-text, plate-key, plate-before, plate-made, plate-parts, held, shown, Shows};
+ghost use Rattle.keys.specs.PlateWord.{length-good, byte-good, bytes-good, plate-text, text-before, plate-key, plate-before, plate-made, plate-parts, held, shown, Shows};
 use crate::kind::KeyKind;
 use crate::refusal::Refusal;
+
+// The first word that has more than the seven bytes of a plate.
+const END: u64 = 0x100_0000_0000_0000;
+
+// The kind of plate keys.
+#[derive(Clone, Copy)]
+pub struct Plate;
 
 // The text of a plate: its bytes followed by zeros, and how many bytes it has.
 #[derive(Clone, Copy)]
@@ -14,10 +21,6 @@ pub struct PlateText {
     bytes: [u8; 7],
     size: usize,
 }
-
-// The kind of plate keys.
-#[derive(Clone, Copy)]
-pub struct Plate;
 
 fn is_length(n: usize) -> bool
     ensures { λ r. ⌜ r ≡ length-good n ⌝ }
@@ -31,6 +34,7 @@ fn is_byte(b: u8) -> bool
     (b'A' <= b && b <= b'Z') || (b'0' <= b && b <= b'9')
 }
 
+// Whether every byte may stand in a plate.
 fn are_bytes(text: &[u8]) -> bool
     ensures { λ r. ⌜ r ≡ bytes-good (now (text .entry)) ⌝ }
 {
@@ -43,7 +47,7 @@ fn are_bytes(text: &[u8]) -> bool
 }
 
 // How many of the seven bytes of a word stand before the zeros at their end.
-fn size_of(w: u64) -> usize
+fn text_size(w: u64) -> usize
     requires { ⌜ w < 2 ^ 56 ⌝ }
     ensures { λ r. ⌜ r ≡ length (plate-text w) ⌝ }
 {
@@ -64,11 +68,12 @@ fn text_of(w: u64) -> PlateText
     let [_, a, b, c, d, e, f, g] = w.to_be_bytes();
     PlateText {
         bytes: [a, b, c, d, e, f, g],
-        size: size_of(w),
+        size: text_size(w),
     }
 }
 
 impl PlateText {
+    // The text without the zeros.
     pub fn bytes(&self) -> &[u8]
         ensures { λ r. ⌜ now r ≡ shown (now (self .entry)) ⌝ }
     {
@@ -81,27 +86,33 @@ impl PlateText {
     }
 }
 
+// Whether the text in a comes before the text in b. Bytes stand highest first, so texts come in the order of their words.
+fn text_before(a: u64, b: u64) -> bool
+    ensures { λ r. ⌜ r ≡ text-before (plate-text a) (plate-text b) ⌝ }
+{
+    a < b
+}
+
 pub impl KeyKind for Plate as PlateKeyKind {
     ghost key = { plate-key };
 
     ghost before = { plate-before };
 
     fn is_key(w: u64) -> bool {
-        if 0x100_0000_0000_0000 <= w {
+        if END <= w {
             return false;
         }
         let text = text_of(w);
         is_length(text.size) && are_bytes(text.bytes())
     }
 
-    // The order of the bytes is the order of the words.
     fn comes_before(a: u64, b: u64) -> bool {
-        a < b
+        text_before(a, b)
     }
 }
 
 impl Plate {
-    // The key of a plate.
+    // The key of a plate, which comes apart into its bytes again.
     pub fn make(text: &[u8]) -> Result<u64, Refusal>
         ensures value { λ r. ⌜ r ≡ plate-made (now (text .entry)) ⌝ }
         ensures same { λ r. ⌜ made r (λ w. Shows (now (text .entry)) (plate-parts w)) ⌝ }
@@ -117,7 +128,7 @@ impl Plate {
         Ok(u64::from_be_bytes(bytes))
     }
 
-    // The plate of a key.
+    // The plate of a key, which makes that key again.
     pub fn parts(w: u64) -> Result<PlateText, Refusal>
         ensures value { λ r. ⌜ r ≡ plate-parts w ⌝ }
         ensures same { λ r. ⌜ made r (λ t. plate-made (shown t) ≡ Ok w) ⌝ }

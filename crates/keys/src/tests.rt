@@ -23,7 +23,14 @@ fn places_and_their_order() -> Result<(), Fail> {
     check_eq(place(-20, 1, 1), Ok(3959488513))?;
     check(Place::comes_before(4278321159, 65537))?;
     check(!Place::comes_before(65537, 4278321159))?;
-    check_eq(Place::parts(4278321159), Ok(PlaceParts { level: -1, zone: 2, place: 7 }))
+    check_eq(
+        Place::parts(4278321159),
+        Ok(PlaceParts {
+            level: -1,
+            zone: 2,
+            place: 7,
+        }),
+    )
 }
 
 #[test]

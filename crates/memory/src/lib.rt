@@ -7,7 +7,6 @@ pub mod bytes;
 pub mod flat;
 pub mod kept;
 pub mod lent;
-pub mod window;
-
 #[cfg(test)]
 mod tests;
+pub mod window;

@@ -35,7 +35,13 @@ fn take_slot(table: &Table, runner: usize, page: u8) -> Move
 }
 
 // A full page is split, unless a split elsewhere is to be helped first.
-fn enter_full_page<M: KeptMemory, K: KeyKind>(memory: &M, table: &Table, runner: usize, page: u8, split: Option<Split>) -> Move
+fn enter_full_page<M: KeptMemory, K: KeyKind>(
+    memory: &M,
+    table: &Table,
+    runner: usize,
+    page: u8,
+    split: Option<Split>,
+) -> Move
     ensures { λ r. ⌜ r ≡ crowded (K·KeyKind .before) (M·KeptMemory .words (now (memory .entry))) (now (table .entry)) runner page split ⌝ }
 {
     match split {
@@ -45,7 +51,13 @@ fn enter_full_page<M: KeptMemory, K: KeyKind>(memory: &M, table: &Table, runner:
 }
 
 // An enter into a page that is not splitting.
-fn enter_page<M: KeptMemory, K: KeyKind>(memory: &M, table: &Table, runner: usize, key: u64, page: u8) -> Move
+fn enter_page<M: KeptMemory, K: KeyKind>(
+    memory: &M,
+    table: &Table,
+    runner: usize,
+    key: u64,
+    page: u8,
+) -> Move
     ensures { λ r. ⌜ r ≡ entering-page (K·KeyKind .before) (M·KeptMemory .words (now (memory .entry))) (now (table .entry)) runner page (found (M·KeptMemory .words (now (memory .entry))) (page-at (now (table .entry)) page .committed) page key) ⌝ }
 {
     let row = table.page_at(page);
@@ -61,26 +73,58 @@ fn enter_page<M: KeptMemory, K: KeyKind>(memory: &M, table: &Table, runner: usiz
     }
 }
 
-fn enter_standing<M: KeptMemory, K: KeyKind>(memory: &M, table: &Table, runner: usize, key: u64, page: u8, standing: Standing) -> Move
+fn enter_standing<M: KeptMemory, K: KeyKind>(
+    memory: &M,
+    table: &Table,
+    runner: usize,
+    key: u64,
+    page: u8,
+    standing: Standing,
+) -> Move
     ensures { λ r. ⌜ r ≡ entering (K·KeyKind .before) (M·KeptMemory .words (now (memory .entry))) (now (table .entry)) runner key page standing ⌝ }
 {
     match standing {
         Standing::Whole | Standing::Left => enter_page::<M, K>(memory, table, runner, key, page),
-        Standing::InCopy | Standing::InSync(_) | Standing::InLink(_) => Move::turns(runner, Stage::Helping),
+        Standing::InCopy | Standing::InSync(_) | Standing::InLink(_) => Move::turns(
+            runner,
+            Stage::Helping,
+        ),
     }
 }
 
-fn locate_in<M: KeptMemory, K: KeyKind>(memory: &M, table: &Table, runner: usize, key: u64, page: u8, operation: Operation) -> Move
+fn locate_in<M: KeptMemory, K: KeyKind>(
+    memory: &M,
+    table: &Table,
+    runner: usize,
+    key: u64,
+    page: u8,
+    operation: Operation,
+) -> Move
     ensures { λ r. ⌜ r ≡ locating-page (K·KeyKind .before) (M·KeptMemory .words (now (memory .entry))) (now (table .entry)) runner key page operation ⌝ }
 {
     match operation {
-        Operation::Enter => enter_standing::<M, K>(memory, table, runner, key, page, table.standing(page)),
-        Operation::Change | Operation::Remove | Operation::Look => Move::turns(runner, Stage::Acting { page }),
+        Operation::Enter => enter_standing::<M, K>(
+            memory,
+            table,
+            runner,
+            key,
+            page,
+            table.standing(page),
+        ),
+        Operation::Change | Operation::Remove | Operation::Look => Move::turns(
+            runner,
+            Stage::Acting { page },
+        ),
     }
 }
 
 // Change, remove and look hold the covering page and go to acting; enter tests that page.
-pub fn locate<M: KeptMemory, K: KeyKind>(memory: &M, table: &Table, runner: usize, x: Runner) -> Move
+pub fn locate<M: KeptMemory, K: KeyKind>(
+    memory: &M,
+    table: &Table,
+    runner: usize,
+    x: Runner,
+) -> Move
     ensures { λ r. ⌜ r ≡ locating (K·KeyKind .before) (M·KeptMemory .words (now (memory .entry))) (now (table .entry)) runner x ⌝ }
 {
     let page = covering_page::<M, K>(memory, table, x.key);

@@ -57,7 +57,11 @@ pub fn goes_right<K: KeyKind>(split: Split, key: u64) -> bool
 pub fn new_page<K: KeyKind>(split: Split, key: u64) -> u8
     ensures { λ r. ⌜ r ≡ new-page (K·KeyKind .before) split key ⌝ }
 {
-    if goes_right::<K>(split, key) { split.right } else { split.left }
+    if goes_right::<K>(split, key) {
+        split.right
+    } else {
+        split.left
+    }
 }
 
 // The key's slot in its new page, whatever is committed there.

@@ -26,7 +26,11 @@ use protocol::table::Table;
 fn key_of_live<M: KeptMemory>(memory: &M, bits: u8, page: u8, slot: u8) -> u64
     ensures { λ r. ⌜ r ≡ live-key (M·KeptMemory .words (now (memory .entry))) bits page slot ⌝ }
 {
-    if is_set(bits, slot) { word(memory, key_at(page, slot)) } else { 0 }
+    if is_set(bits, slot) {
+        word(memory, key_at(page, slot))
+    } else {
+        0
+    }
 }
 
 // The keys of the committed slots, 0 for the others.
@@ -112,7 +116,7 @@ fn is_free(table: &Table, page: u8) -> bool
 }
 
 // How many pages the row has.
-fn pages_of<M: KeptMemory>(memory: &M) -> u8
+pub fn pages_of<M: KeptMemory>(memory: &M) -> u8
     ensures { λ r. ⌜ r ≡ page-count (M·KeptMemory .words (now (memory .entry))) ⌝ }
 {
     let pages = memory.count().saturating_sub(1) / 18;
@@ -184,7 +188,11 @@ fn start_into_one(table: &Table, pages: u8, runner: usize, page: u8, key: u64) -
     match next_free(table, pages, 0) {
         Some(i) => {
             let left = round_page(table, pages, i);
-            start(runner, split_of(page, left, 0, key), round_after(pages, left))
+            start(
+                runner,
+                split_of(page, left, 0, key),
+                round_after(pages, left),
+            )
         }
         None => Move::answers(runner, Answer::NoRoom),
     }
@@ -198,7 +206,11 @@ fn start_into_second(table: &Table, pages: u8, runner: usize, page: u8, key: u64
         Some(j) => {
             let left = round_page(table, pages, i);
             let right = round_page(table, pages, j);
-            start(runner, split_of(page, left, right, key), round_after(pages, right))
+            start(
+                runner,
+                split_of(page, left, right, key),
+                round_after(pages, right),
+            )
         }
         None => Move::answers(runner, Answer::NoRoom),
     }
@@ -228,7 +240,12 @@ fn start_with<K: KeyKind>(table: &Table, pages: u8, runner: usize, page: u8, key
 }
 
 // A split of the full page starts, if enough pages are free.
-pub fn start_split<M: KeptMemory, K: KeyKind>(memory: &M, table: &Table, runner: usize, page: u8) -> Move
+pub fn start_split<M: KeptMemory, K: KeyKind>(
+    memory: &M,
+    table: &Table,
+    runner: usize,
+    page: u8,
+) -> Move
     ensures { λ r. ⌜ r ≡ starting (K·KeyKind .before) (M·KeptMemory .words (now (memory .entry))) (now (table .entry)) runner page ⌝ }
 {
     let keys = keys_of_page(memory, table.page_at(page).committed, page);

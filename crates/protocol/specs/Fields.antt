@@ -41,7 +41,8 @@ with-runner t i x = record {
   pages = t .pages;
   split = t .split;
   round = t .round;
-  last = t .last }
+  last = t .last;
+}
 
 -- The runner goes on to a stage.
 abbrev pub with-stage : Runner → Stage → Runner
@@ -64,7 +65,8 @@ with-page t p x = record {
   pages = cond (ltb p 65) (set (t .pages) p x) (t .pages);
   split = t .split;
   round = t .round;
-  last = t .last }
+  last = t .last;
+}
 
 abbrev pub with-first : Table → ℕ → Table
 with-first t p = record {
@@ -75,7 +77,8 @@ with-first t p = record {
   pages = t .pages;
   split = t .split;
   round = t .round;
-  last = t .last }
+  last = t .last;
+}
 
 abbrev pub with-split : Table → Option Split → ℕ → Table
 with-split t s round = record {
@@ -86,7 +89,8 @@ with-split t s round = record {
   pages = t .pages;
   split = s;
   round = round;
-  last = t .last }
+  last = t .last;
+}
 
 -- The page that a runner holds, 0 if it holds none.
 abbrev pub held : Stage → ℕ

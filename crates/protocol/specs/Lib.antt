@@ -10,3 +10,6 @@ pub mod Split
 pub mod Plan
 pub mod Settle
 pub mod Rows
+pub mod Make
+pub mod Rebuild
+pub mod Calls

@@ -93,8 +93,8 @@ linked t left (Some q) = with-page t q (with-next (page-at t q) left)
 abbrev pub with-new-pages : Table → Split → ℕ → Table
 with-new-pages t s after =
     cond (eqb (s .right) 0)
-      (with-page t (s .left) (filled after (s .lefts)))
-      (with-page (with-page t (s .left) (filled (s .right) (s .lefts))) (s .right) (filled after (s .rights)))
+    (with-page t (s .left) (filled after (s .lefts)))
+    (with-page (with-page t (s .left) (filled (s .right) (s .lefts))) (s .right) (filled after (s .rights)))
 
 abbrev pub finished : Table → Split → Table
 finished t s =

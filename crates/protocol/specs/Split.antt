@@ -67,14 +67,15 @@ copied before s i k = record {
   progress = Copying (slot-after i);
   copies = cond (ltb i 8) (set (s .copies) i (record { page = new-page before s k; slot = new-count before s k })) (s .copies);
   lefts = cond (on-right before s k) (s .lefts) (slot-after (s .lefts));
-  rights = cond (on-right before s k) (slot-after (s .rights)) (s .rights) }
+  rights = cond (on-right before s k) (slot-after (s .rights)) (s .rights);
+}
 
 -- A slot whose old key is 0 has 0 stored over its new key; any other has its old word loaded.
 abbrev pub syncing-slot : List ℕ → ℕ → Split → ℕ → Move
 syncing-slot ws r s i =
     cond (eqb (word ws (key-at (s .old) i)) 0)
-      (stores r (key-at (copy-at s i .page) (copy-at s i .slot)) 0 s (Syncing (slot-after i)))
-      (splits r (Load (value-at (s .old) i)) (SyncLoaded s i))
+    (stores r (key-at (copy-at s i .page) (copy-at s i .slot)) 0 s (Syncing (slot-after i)))
+    (splits r (Load (value-at (s .old) i)) (SyncLoaded s i))
 
 -- Slot after slot is brought level; after the last one the link phase opens.
 abbrev pub syncing : List ℕ → ℕ → Split → Option ℕ → Move

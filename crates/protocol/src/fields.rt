@@ -1,6 +1,7 @@
 // How the table's fields are read and written: total, whatever the number.
 ghost use mathlib.Core.Path.{_≡_};
 ghost use Rattle.protocol.specs.Fields.{idle-runner, runner-at, with-runner, page-at, with-page, held, activity as stage-activity, pending-on, phase as progress-phase, in-phase, standing-in, standing as page-standing, not-copied, copy-at};
+use crate::numbers::Operation;
 use crate::table::Activity;
 use crate::table::NewSlot;
 use crate::table::PageRow;
@@ -11,7 +12,6 @@ use crate::table::Split;
 use crate::table::Stage;
 use crate::table::Standing;
 use crate::table::Table;
-use crate::numbers::Operation;
 
 impl Stage {
     // The page that the runner holds, 0 if it holds none.
@@ -20,9 +20,15 @@ impl Stage {
     {
         match self {
             Stage::Idle | Stage::Locating | Stage::Helping | Stage::Answered { .. } => 0,
-            Stage::WritingValue { page, .. } | Stage::WritingKey { page, .. } | Stage::Committing { page, .. } => page,
-            Stage::Acting { page } | Stage::Comparing { page, .. } | Stage::ComparingSwap { page, .. } => page,
-            Stage::PendingNew { page, .. } | Stage::PendingOld { page, .. } | Stage::PendingSwap { page, .. } => page,
+            Stage::WritingValue { page, .. }
+            | Stage::WritingKey { page, .. }
+            | Stage::Committing { page, .. } => page,
+            Stage::Acting { page }
+            | Stage::Comparing { page, .. }
+            | Stage::ComparingSwap { page, .. } => page,
+            Stage::PendingNew { page, .. }
+            | Stage::PendingOld { page, .. }
+            | Stage::PendingSwap { page, .. } => page,
             Stage::PendingRemove { page } | Stage::Reading { page } => page,
         }
     }
@@ -53,7 +59,12 @@ impl Runner {
     pub fn idle() -> Runner
         ensures { λ r. ⌜ r ≡ idle-runner ⌝ }
     {
-        Runner { operation: Operation::Enter, key: 0, word: 0, stage: Stage::Idle }
+        Runner {
+            operation: Operation::Enter,
+            key: 0,
+            word: 0,
+            stage: Stage::Idle,
+        }
     }
 }
 
@@ -62,7 +73,8 @@ impl Progress {
         ensures { λ r. ⌜ r ≡ progress-phase self ⌝ }
     {
         match self {
-            Progress::Syncing { .. } | Progress::SyncingNew { .. } | Progress::SyncingSwap { .. } => Phase::Sync,
+            Progress::Syncing { .. } | Progress::SyncingNew { .. } | Progress::SyncingSwap { .. } =>
+                Phase::Sync,
             Progress::Linking | Progress::Finishing => Phase::Link,
             _ => Phase::Copy,
         }
@@ -74,7 +86,11 @@ impl Split {
     pub fn copy_at(&self, slot: u8) -> NewSlot
         ensures { λ r. ⌜ r ≡ copy-at (now (self .entry)) slot ⌝ }
     {
-        if slot < 8 { self.copies[slot as usize] } else { NewSlot { page: 0, slot: 0 } }
+        if slot < 8 {
+            self.copies[slot as usize]
+        } else {
+            NewSlot { page: 0, slot: 0 }
+        }
     }
 }
 
@@ -108,7 +124,11 @@ impl Table {
     pub fn runner_at(&self, i: usize) -> Runner
         ensures { λ r. ⌜ r ≡ runner-at (now (self .entry)) i ⌝ }
     {
-        if i < 8 { self.runners[i] } else { Runner::idle() }
+        if i < 8 {
+            self.runners[i]
+        } else {
+            Runner::idle()
+        }
     }
 
     pub fn set_runner(&mut self, i: usize, runner: Runner)
@@ -122,7 +142,11 @@ impl Table {
     pub fn page_at(&self, page: u8) -> PageRow
         ensures { λ r. ⌜ r ≡ page-at (now (self .entry)) page ⌝ }
     {
-        if page < 65 { self.pages[page as usize] } else { PageRow::none() }
+        if page < 65 {
+            self.pages[page as usize]
+        } else {
+            PageRow::none()
+        }
     }
 
     pub fn set_page(&mut self, page: u8, row: PageRow)
@@ -137,6 +161,10 @@ impl Table {
     pub fn standing(&self, page: u8) -> Standing
         ensures { λ r. ⌜ r ≡ page-standing (now (self .entry)) page ⌝ }
     {
-        if self.page_at(page).listed { standing_in(self.split, page) } else { Standing::Left }
+        if self.page_at(page).listed {
+            standing_in(self.split, page)
+        } else {
+            Standing::Left
+        }
     }
 }

@@ -30,14 +30,32 @@ pub enum RunnerNext {
     // a look is done with the loaded word's value
     AnswerLoaded,
     // a look remembers the old word and goes to comparing
-    CompareLoaded { page: u8 },
+    CompareLoaded {
+        page: u8,
+    },
     // a comparing look judges the new word by the old one
-    JudgeLoaded { page: u8, new: u8, old: u64 },
+    JudgeLoaded {
+        page: u8,
+        new: u8,
+        old: u64,
+    },
     // a pending change remembers the new word
-    PendLoaded { page: u8, slot: u8, new: u8 },
+    PendLoaded {
+        page: u8,
+        slot: u8,
+        new: u8,
+    },
     // a pending change weighs the old word against the new one
-    WeighLoaded { page: u8, slot: u8, new: u8, word: u64 },
-    BySwap { written: Stage, missed: Stage },
+    WeighLoaded {
+        page: u8,
+        slot: u8,
+        new: u8,
+        word: u64,
+    },
+    BySwap {
+        written: Stage,
+        missed: Stage,
+    },
 }
 
 // What becomes of the rest of the table.
@@ -76,7 +94,12 @@ impl Move {
     pub fn moves(runner: usize, access: Access, own: RunnerNext) -> Move
         ensures { λ r. ⌜ r ≡ moves runner access own ⌝ }
     {
-        Move { runner, access, own, rest: TableNext::Stay }
+        Move {
+            runner,
+            access,
+            own,
+            rest: TableNext::Stay,
+        }
     }
 
     // The runner makes an access and goes to a stage.
@@ -104,7 +127,12 @@ impl Move {
     pub fn splits(runner: usize, access: Access, rest: TableNext) -> Move
         ensures { λ r. ⌜ r ≡ splits runner access rest ⌝ }
     {
-        Move { runner, access, own: RunnerNext::Stay, rest }
+        Move {
+            runner,
+            access,
+            own: RunnerNext::Stay,
+            rest,
+        }
     }
 
     // Nothing happens.

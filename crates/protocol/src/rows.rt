@@ -15,7 +15,10 @@ impl PageRecord {
         ensures { λ r. ⌜ elim r [ Some p ↦ (numbers-of p ≡ (row .taken, row .committed)) × (sound row ≡ true) | None ↦ sound row ≡ false ] ⌝ }
     {
         if row.taken <= 8 && (row.committed as u16) < 1 << row.taken {
-            Some(PageRecord { taken: row.taken, committed: row.committed })
+            Some(PageRecord {
+                taken: row.taken,
+                committed: row.committed,
+            })
         } else {
             None
         }
@@ -45,7 +48,12 @@ impl PageRow {
     pub fn none() -> PageRow
         ensures { λ r. ⌜ r ≡ no-page ⌝ }
     {
-        PageRow { listed: false, next: 0, taken: 0, committed: 0 }
+        PageRow {
+            listed: false,
+            next: 0,
+            taken: 0,
+            committed: 0,
+        }
     }
 
     pub fn is_committed(self, slot: u8) -> bool
@@ -57,7 +65,11 @@ impl PageRow {
     fn with_record(self, record: PageRecord) -> PageRow
         ensures { λ r. ⌜ r ≡ with-numbers self (numbers-of «record») ⌝ }
     {
-        PageRow { taken: record.taken, committed: record.committed, ..self }
+        PageRow {
+            taken: record.taken,
+            committed: record.committed,
+            ..self
+        }
     }
 
     // One more slot is taken.
@@ -93,10 +105,20 @@ impl PageRow {
         ensures { λ r. ⌜ r ≡ filled next slots ⌝ }
     {
         if slots > 8 {
-            return PageRow { listed: true, next, taken: 0, committed: 0 };
+            return PageRow {
+                listed: true,
+                next,
+                taken: 0,
+                committed: 0,
+            };
         }
         let committed = ((1u16 << slots) - 1) as u8;
-        PageRow { listed: true, next, taken: slots, committed }
+        PageRow {
+            listed: true,
+            next,
+            taken: slots,
+            committed,
+        }
     }
 }
 

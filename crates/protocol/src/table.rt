@@ -8,19 +8,59 @@ use crate::numbers::Operation;
 pub enum Stage {
     Idle,
     Locating,
-    WritingValue { page: u8, slot: u8 },
-    WritingKey { page: u8, slot: u8 },
-    Committing { page: u8, slot: u8 },
+    WritingValue {
+        page: u8,
+        slot: u8,
+    },
+    WritingKey {
+        page: u8,
+        slot: u8,
+    },
+    Committing {
+        page: u8,
+        slot: u8,
+    },
     Helping,
-    Acting { page: u8 },
-    PendingNew { page: u8, slot: u8 },
-    PendingOld { page: u8, slot: u8, new: u8, word: u64 },
-    PendingSwap { page: u8, slot: u8, new: u8, word: u64, old: u64 },
-    PendingRemove { page: u8 },
-    Comparing { page: u8, old: u64 },
-    ComparingSwap { page: u8, new: u8, word: u64, old: u64 },
-    Reading { page: u8 },
-    Answered { answer: Answer, value: u32 },
+    Acting {
+        page: u8,
+    },
+    PendingNew {
+        page: u8,
+        slot: u8,
+    },
+    PendingOld {
+        page: u8,
+        slot: u8,
+        new: u8,
+        word: u64,
+    },
+    PendingSwap {
+        page: u8,
+        slot: u8,
+        new: u8,
+        word: u64,
+        old: u64,
+    },
+    PendingRemove {
+        page: u8,
+    },
+    Comparing {
+        page: u8,
+        old: u64,
+    },
+    ComparingSwap {
+        page: u8,
+        new: u8,
+        word: u64,
+        old: u64,
+    },
+    Reading {
+        page: u8,
+    },
+    Answered {
+        answer: Answer,
+        value: u32,
+    },
 }
 
 // Whether a runner has an operation: none, one under way, or one whose answer waits to be collected.
@@ -123,5 +163,13 @@ pub struct Table {
     pub pages: [PageRow; 65],
     pub split: Option<Split>,
     pub round: u8,
+    pub last: u32,
+}
+
+// What a rebuild has seen of a page's slots, and the largest change number so far.
+#[derive(Clone, Copy)]
+pub struct Tally {
+    pub taken: u8,
+    pub committed: u8,
     pub last: u32,
 }

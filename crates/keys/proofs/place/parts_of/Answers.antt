@@ -5,7 +5,7 @@ use Prim.Native.Nat.{_/_, _%_}
 use mir.Val.{SFits, toZ, ofZ}
 use mir.Syntax.{w8, w32}
 use Rattle.std.proofs.shelf.Bits.{and-mask}
-use Rattle.std.proofs.shelf.Signed.{ints, toZ-ofZ}
+use Rattle.std.proofs.shelf.Signed.{toZ-ofZ}
 use Rattle.keys.specs.PlaceWord.{byte-level}
 use Rattle.keys.proofs.PlaceWords.{signed-byte}
 use Rattle.keys.proofs.place.parts_of.Needs as need

@@ -2,7 +2,7 @@ use mathlib.Core.List.{List, [], _∷_}
 use mathlib.Core.Path.{sym, ap, _∙_}
 use Prim.Native.Nat.{ℕ}
 use lib.ListN.{getD}
-use Rattle.keys.proofs.PlateTexts.{padded-text}
+use Rattle.keys.proofs.PlateBytes.{padded-text}
 use Rattle.keys.proofs.plate.text_of.Needs as need
 
 -- the bytes that are read
@@ -13,4 +13,4 @@ pub returns : need.returns
 unfolding low-seven
 returns c =
     let e = ap low-seven (c .to-be-bytes .ensures) ∙ sym (padded-text (c .args .w) (c .pre)) in
-    λ i. record { bytes = e i; size = c .size-of .ensures i }
+    λ i. record { bytes = e i; size = c .text-size .ensures i }

@@ -7,7 +7,7 @@ abbrev pub Inv-loop-slot : given.InvT-loop-slot
 Inv-loop-slot g l =
     (l .slot ≤ 8)
     × (first-from (holds (g .M·KeptMemory .words (l .memory)) (l .bits) (l .page) (l .key)) 0 8
-        ≡ first-from (holds (g .M·KeptMemory .words (l .memory)) (l .bits) (l .page) (l .key)) (l .slot) (8 - l .slot))
+    ≡ first-from (holds (g .M·KeptMemory .words (l .memory)) (l .bits) (l .page) (l .key)) (l .slot) (8 - l .slot))
 
 abbrev pub μ-loop-slot : given.MeasureT-loop-slot
 μ-loop-slot g l = 8 - l .slot

@@ -3,11 +3,10 @@ use mathlib.Core.Bool.{true}
 use mathlib.Core.Path.{_≡_, sym, ap, _∙_}
 use mir.Val.{SFits, toZ, ofZ}
 use mir.Syntax.{w8, w32}
-use native.Mathlib.Omega.{arith}
-use Prim.Native.Nat.{_+_, _*_, _<_}
+use Prim.Native.Nat.{_+_, _*_}
 use Rattle.std.proofs.shelf.Signed.{toZ-ofZ}
 use Rattle.std.specs.declared.result.Result.the-variants.{Ok}
-use Rattle.keys.specs.PlaceWord.{level-good, zone-good, place-good, level-byte, place-word, place-parts}
+use Rattle.keys.specs.PlaceWord.{level-good, zone-good, place-good, level-byte, place-parts}
 use Rattle.keys.proofs.PlaceWords.{level-fits, level-bits, zone-small, place-small, joined-bits, made-of-good, made-and-parted}
 use Rattle.keys.proofs.place.Place.make.Needs as need
 

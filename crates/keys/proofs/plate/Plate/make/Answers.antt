@@ -5,7 +5,7 @@ use Prim.Native.Nat.{_+_, _-_}
 use lib.ListN.{length, replicate}
 use Rattle.std.specs.declared.result.Result.the-variants.{Ok}
 use Rattle.keys.specs.PlateWord.{length-good, bytes-good, plate-word, plate-parts, Shows}
-use Rattle.keys.proofs.PlateTexts.{eight, written-eight}
+use Rattle.keys.proofs.PlateBytes.{eight, written-eight}
 use Rattle.keys.proofs.PlateTrips.{made-of-good, made-and-parted}
 use Rattle.keys.proofs.plate.Plate.make.Needs as need
 

@@ -1,9 +1,9 @@
-use mathlib.Core.Path.{_≡_, sym, ap, _∙_}
-use Prim.Native.Nat.{suc, _-_, _%_, _<_}
+use mathlib.Core.Path.{sym, ap, _∙_}
+use Prim.Native.Nat.{_-_, _%_, _<_}
 use native.Mathlib.Omega.{arith}
 use lib.ListN.{length}
-use Rattle.keys.proofs.PlateTexts.{text-cut, text-full, length-text}
-use Rattle.keys.proofs.plate.size_of.Needs as need
+use Rattle.keys.proofs.PlateSizes.{text-cut, text-full, length-text}
+use Rattle.keys.proofs.plate.text_size.Needs as need
 
 pub loop-size-again : need.loop-size-again
 loop-size-again c =
