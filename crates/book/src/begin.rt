@@ -14,7 +14,7 @@ use protocol::table::Activity;
 use protocol::table::Runner;
 use protocol::table::Stage;
 use protocol::table::Table;
-use protocol::value_word::fresh;
+use values::value_word::fresh;
 
 // The largest change number.
 const LAST_NUMBER: u32 = 2147483647;

@@ -2,7 +2,7 @@
 ghost use mathlib.Core.Path.{_≡_};
 ghost use Rattle.protocol.specs.Settle.{performed, outcome};
 use memory::kept::KeptMemory;
-use plan::search::word;
+use search::word;
 use protocol::moves::Access;
 use protocol::moves::Outcome;
 

@@ -11,9 +11,9 @@ use crate::book::bare_table;
 use crate::make::size_refusal;
 use keys::kind::KeyKind;
 use memory::kept::KeptMemory;
-use plan::search::find_slot;
-use plan::search::word;
-use plan::start::pages_of;
+use search::find_slot;
+use search::word;
+use search::pages_of;
 use protocol::layout::key_at;
 use protocol::layout::low_at;
 use protocol::layout::next_at;
@@ -22,7 +22,7 @@ use protocol::numbers::Refusal;
 use protocol::table::PageRow;
 use protocol::table::Table;
 use protocol::table::Tally;
-use protocol::value_word::number_of;
+use values::value_word::number_of;
 
 // The page stands in the list before `next`.
 fn with_listed(table: Table, page: u8, next: u8) -> Table

@@ -5,9 +5,9 @@ ghost use Prim.Native.Nat.{ℕ};
 ghost use Rattle.std.specs.declared.option.Option.the-variants.{None};
 ghost use Rattle.protocol.specs.Fields.{with-progress, with-stage, with-split};
 ghost use Rattle.protocol.specs.Settle.{loaded-word, did-swap, judged, weighed, stage-after, levelled, linked, with-new-pages, finished, split-goes, table-after, settled};
-use plan::search::preceding_page;
-use plan::split::slot_after;
-use plan::split::with_progress;
+use search::preceding_page;
+use plan::slot_after;
+use plan::with_progress;
 use protocol::moves::Move;
 use protocol::moves::Outcome;
 use protocol::moves::RunnerNext;
@@ -19,9 +19,9 @@ use protocol::table::Runner;
 use protocol::table::Split;
 use protocol::table::Stage;
 use protocol::table::Table;
-use protocol::value_word::is_marked;
-use protocol::value_word::is_same;
-use protocol::value_word::value_of;
+use values::value_word::is_marked;
+use values::value_word::is_same;
+use values::value_word::value_of;
 
 fn loaded_word(outcome: Outcome) -> u64
     ensures { λ r. ⌜ r ≡ loaded-word outcome ⌝ }

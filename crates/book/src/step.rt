@@ -8,7 +8,7 @@ use crate::perform::perform;
 use crate::settle::settle;
 use keys::kind::KeyKind;
 use memory::kept::KeptMemory;
-use plan::step::plan;
+use plan::plan;
 use protocol::numbers::Refusal;
 use protocol::table::Activity;
 use protocol::table::Table;

@@ -1,27 +1,19 @@
 -- Words in bytes: what a write of eight bytes does to the row.
-use mathlib.Core.Bool.{Bool, true, false, cond}
-use mathlib.Core.List.{List, [], _∷_, _++_, map}
+use mathlib.Core.List.{List, _++_}
 use mathlib.Core.Path.{_≡_, refl, sym, ap, _∙_}
 use mathlib.Core.Logic.{_≢_, ⊎-elim}
 use Prim.Native.Nat.{ℕ, _+_, _-_, _*_, _/_, _%_, _^_, _<_, _≤_}
 use native.Mathlib.Omega.{arith}
 use native.Mathlib.Nat.{add-zero}
-use lib.Dec.{lit≤, ltb, eqb}
+use lib.Dec.{lit≤}
 use borrow.Author.Needs.{needs}
 use lib.ListN.{length, getD, set, take, drop}
 use lib.Seq.{paste, length-paste-head}
-use Rattle.std.specs.Iters.{counting}
 use Rattle.std.proofs.shelf.Counted.{length-map-counting, getD-map-counting}
 use Rattle.std.proofs.shelf.Edits.{length-paste, drop-paste}
-use Rattle.std.proofs.shelf.Lists.{places, same-lists, getD-set-same, getD-set-other, length-set, getD-append-left, getD-append-right, length-append, length-take-le, getD-take, getD-drop, drop-drop}
+use Rattle.std.proofs.shelf.Lists.{places, same-lists, getD-set-same, getD-set-other, length-set, getD-append-left, getD-append-right, length-take-le, getD-take, drop-drop}
 use Rattle.std.proofs.shelf.Tests.{cases-eq, cases-lt}
-use Rattle.std.proofs.shelf.Tests.{lt-ltb, le-ltb}
-use Rattle.std.specs.declared.result.Result.{Result}
-use Rattle.std.specs.declared.result.Result.the-variants.{Ok, Err}
-use Rattle.memory.specs.declared.kept.Refusal.{Refusal}
-use Rattle.memory.specs.declared.kept.Refusal.the-variants.{NoSuchWord}
-use Rattle.memory.specs.Row.{loaded, stored, swapped, row-stored, row-swapped}
-use Rattle.memory.specs.Octets.{word-at, octets, words-of}
+use Rattle.memory.specs.Octets.{word-at, octets, words-of, leftover}
 
 pub length-words : (bs : List ℕ) → length (words-of bs) ≡ length bs / 8
 unfolding words-of
@@ -87,51 +79,12 @@ words-written bs i w t f =
     (λ ne. word-kept bs (octets w) i k h refl ne ∙ sym (getD-set-other (words-of bs) i k w d ne ∙ getD-words bs k d r))
     (cases-eq k i))
 
--- what no word holds
-pub rest-written : (bs : List ℕ) (i w : ℕ) → i < length bs / 8 → drop (8 * (length (paste bs (8 * i) (octets w) 8) / 8)) (paste bs (8 * i) (octets w) 8) ≡ drop (8 * (length bs / 8)) bs
-rest-written bs i w t =
+-- the bytes that are in no word
+pub leftover-written : (bs : List ℕ) (i w : ℕ) → i < length bs / 8 → leftover (paste bs (8 * i) (octets w) 8) ≡ leftover bs
+leftover-written bs i w t =
     let bs′ = paste bs (8 * i) (octets w) 8 in
     let h : 8 * i + 8 ≤ length bs = omega arith in
     let e : length bs′ ≡ length bs = length-paste bs (8 * i) (octets w) 8 h (lit≤ tt) in
     let m = 8 * (length bs / 8) - (8 * i + 8) in
     let s : 8 * (length bs / 8) ≡ 8 * i + 8 + m = omega arith in
     rw e (rw s (sym (drop-drop m (8 * i + 8) bs′) ∙ ap (drop m) (drop-paste bs (8 * i) (octets w) 8 (omega arith) (lit≤ tt)) ∙ drop-drop m (8 * i + 8) bs))
-
--- the answers at an index of the row, and at one past it
-module _ (bs : List ℕ) (i : ℕ) (h : i < length bs / 8) where
-  within : i < length (words-of bs)
-  within = rw (length-words bs) h
-
-  pub load-within : Ok (word-at bs (8 * i)) ≡ loaded (words-of bs) i
-  load-within = rw (lt-ltb i (length (words-of bs)) within, getD-words bs i 0 h)
-
-  pub store-within : Ok tt ≡ stored (words-of bs) i
-  store-within = rw (lt-ltb i (length (words-of bs)) within)
-
-  pub row-store-within : (w : ℕ) → w < 2 ^ 64 → words-of (paste bs (8 * i) (octets w) 8) ≡ row-stored (words-of bs) i w
-  row-store-within w f = rw (lt-ltb i (length (words-of bs)) within) (words-written bs i w h f)
-
-  pub swap-within : (e : ℕ) → Ok (eqb (word-at bs (8 * i)) e) ≡ swapped (words-of bs) i e
-  swap-within e = rw (lt-ltb i (length (words-of bs)) within, getD-words bs i 0 h)
-
-  pub row-swap-within : (e w : ℕ) → row-swapped (words-of bs) i e w ≡ cond (eqb (word-at bs (8 * i)) e) (set (words-of bs) i w) (words-of bs)
-  row-swap-within e w = rw (lt-ltb i (length (words-of bs)) within, getD-words bs i 0 h)
-
-module _ (bs : List ℕ) (i : ℕ) (h : length bs / 8 ≤ i) where
-  past : length (words-of bs) ≤ i
-  past = rw (length-words bs) h
-
-  pub load-past : Err NoSuchWord ≡ loaded (words-of bs) i
-  load-past = rw (le-ltb i (length (words-of bs)) past)
-
-  pub store-past : Err NoSuchWord ≡ stored (words-of bs) i
-  store-past = rw (le-ltb i (length (words-of bs)) past)
-
-  pub row-store-past : (w : ℕ) → words-of bs ≡ row-stored (words-of bs) i w
-  row-store-past w = rw (le-ltb i (length (words-of bs)) past)
-
-  pub swap-past : (e : ℕ) → Err NoSuchWord ≡ swapped (words-of bs) i e
-  swap-past e = rw (le-ltb i (length (words-of bs)) past)
-
-  pub row-swap-past : (e w : ℕ) → words-of bs ≡ row-swapped (words-of bs) i e w
-  row-swap-past e w = rw (le-ltb i (length (words-of bs)) past)

@@ -1,6 +1,6 @@
 -- What the calls of a kept memory answer, and what its row is afterwards.
 -- Words are numbered from 0. A word number that is not below the count is refused, and the row stays.
-use mathlib.Core.Bool.{Bool, true, false, cond}
+use mathlib.Core.Bool.{Bool, cond}
 use mathlib.Core.List.{List}
 use Prim.Native.Nat.{ℕ}
 use lib.Dec.{ltb, eqb}

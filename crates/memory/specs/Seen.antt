@@ -1,14 +1,15 @@
 -- A window of n words from word b over a row ws.
-use mathlib.Core.Bool.{Bool, true, false, cond}
+use mathlib.Core.Bool.{Bool, cond}
 use mathlib.Core.List.{List, []}
 use mathlib.Core.Path.{_≡_}
-use Prim.Native.Nat.{ℕ, _+_}
+use Prim.Native.Nat.{ℕ, _+_, _<_}
 use lib.Dec.{ltb, leb, eqb}
 use lib.ListN.{length, getD, set, take, drop}
 use Rattle.std.specs.declared.result.Result.{Result}
 use Rattle.std.specs.declared.result.Result.the-variants.{Ok, Err}
 use Rattle.memory.specs.declared.kept.Refusal.{Refusal}
 use Rattle.memory.specs.declared.kept.Refusal.the-variants.{NoSuchWindow}
+use Rattle.memory.specs.declared.window.Window.{Window}
 use Rattle.memory.specs.Cut.{Left-by-cut, store-cut, swap-cut}
 
 -- A window fits where its end, b + n, is not past the end of the row.
@@ -31,9 +32,13 @@ size-seen ws b n = cond (fits-in ws b n) n 0
 abbrev pub outside : List ℕ → ℕ → ℕ → List ℕ × List ℕ
 outside ws b n = cond (fits-in ws b n) (take b ws, drop (b + n) ws) (ws, [])
 
+-- The row of a window, where `words` gives the row of the memory below.
+abbrev pub shown : {M : Type 0} → (M → List ℕ) → Window M → List ℕ
+shown words s = seen (words (s .memory)) (s .base) (s .size)
+
 -- What no call through a window changes: where it lies, the words outside it, and what the memory below never changes.
-abbrev pub beside-seen : {R : Type 0} → List ℕ → ℕ → ℕ → R → ℕ × ℕ × (List ℕ × List ℕ) × R
-beside-seen ws b n r = (b, n, outside ws b n, r)
+abbrev pub beside-shown : {M R : Type 0} → (M → List ℕ) → (M → R) → Window M → ℕ × ℕ × (List ℕ × List ℕ) × R
+beside-shown words rest s = (s .base, s .size, outside (words (s .memory)) (s .base) (s .size), rest (s .memory))
 
 -- The whole row below after a store in the window's word i.
 abbrev pub below-stored : List ℕ → ℕ → ℕ → ℕ → ℕ → List ℕ
@@ -42,6 +47,14 @@ below-stored ws b n i w = cond (ltb i (size-seen ws b n)) (set ws (b + i) w) ws
 -- The whole row below after a swap in the window's word i.
 abbrev pub below-swapped : List ℕ → ℕ → ℕ → ℕ → ℕ → ℕ → List ℕ
 below-swapped ws b n i e w = cond (ltb i (size-seen ws b n)) (cond (eqb (getD ws (b + i) 0) e) (set ws (b + i) w) ws) ws
+
+-- Word i of the window is word p of the row below: what is read there, and what a write there changes and leaves.
+pub record Same-word (ws : List ℕ) (b n i p : ℕ) : Type 0 where
+  pub below : p < length ws
+  pub within : i < length (seen ws b n)
+  pub word : getD (seen ws b n) i 0 ≡ getD ws p 0
+  pub written : (w : ℕ) → seen (set ws p w) b n ≡ set (seen ws b n) i w
+  pub kept : (w : ℕ) → outside (set ws p w) b n ≡ outside ws b n
 
 -- Whatever a cut inside a call leaves of the row below, the window shows what such a cut may leave of its own row, and no word outside has changed.
 pub record Cut-through-window : Type 0 where

@@ -3,8 +3,8 @@
 // The slice is the caller's own: when the memory is let go, the caller finds the words in it.
 ghost use mathlib.Core.Path.{_≡_};
 ghost use mathlib.Core.List.{List};
-ghost use Prim.Native.Nat.{ℕ, _*_, _+_, _≤_};
-ghost use lib.ListN.{length};
+ghost use Prim.Native.Nat.{ℕ, _*_, _+_, _<_, _≤_};
+ghost use lib.ListN.{length, getD, set};
 ghost use lib.Seq.{paste};
 ghost use denote.Ref.{name, now};
 ghost use Rattle.memory.specs.Octets.{word-at, octets, words-of, leftover};
@@ -52,12 +52,29 @@ impl<'a> ByteMemory<'a> {
         ByteMemory { bytes }
     }
 
+    // How many whole words there are.
+    fn len(&self) -> usize
+        ensures { λ r. ⌜ r ≡ length (words-of (now (now (self .entry) .bytes))) ⌝ }
+    {
+        self.bytes.len() / 8
+    }
+
     // The word `i`, which is there.
-    fn at(&self, i: usize) -> u64
-        requires { ⌜ 8 * i + 8 ≤ length (now (now self .bytes)) ⌝ }
-        ensures { λ r. ⌜ r ≡ word-at (now (now (self .entry) .bytes)) (8 * i) ⌝ }
+    fn get(&self, i: usize) -> u64
+        requires { ⌜ i < length (words-of (now (now self .bytes))) ⌝ }
+        ensures { λ r. ⌜ r ≡ getD (words-of (now (now (self .entry) .bytes))) i 0 ⌝ }
     {
         read(self.bytes, i)
+    }
+
+    // Puts `w` in word `i`, which is there.
+    fn put(&mut self, i: usize, w: u64)
+        requires { ⌜ i < length (words-of (now (now self .bytes))) ⌝ }
+        ensures row { λ _. ⌜ words-of (now (now (self .exit) .bytes)) ≡ set (words-of (now (now (self .entry) .bytes))) i w ⌝ }
+        ensures same { λ _. ⌜ name (now (self .exit) .bytes) ≡ name (now (self .entry) .bytes) ⌝ }
+        ensures beside { λ _. ⌜ leftover (now (now (self .exit) .bytes)) ≡ leftover (now (now (self .entry) .bytes)) ⌝ }
+    {
+        write(self.bytes, i, w);
     }
 }
 
@@ -70,33 +87,33 @@ pub impl<'a> KeptMemory for ByteMemory<'a> as ByteKeptMemory {
     ghost rest = { λ s. (name (s .bytes), leftover (now (s .bytes))) };
 
     fn count(&self) -> usize {
-        self.bytes.len() / 8
+        self.len()
     }
 
     fn load(&self, i: usize) -> Result<u64, Refusal> {
-        if i < self.bytes.len() / 8 {
-            Ok(self.at(i))
+        if i < self.len() {
+            Ok(self.get(i))
         } else {
             Err(Refusal::NoSuchWord)
         }
     }
 
     fn store(&mut self, i: usize, w: u64) -> Result<(), Refusal> {
-        if i >= self.bytes.len() / 8 {
+        if i >= self.len() {
             return Err(Refusal::NoSuchWord);
         }
-        write(self.bytes, i, w);
+        self.put(i, w);
         Ok(())
     }
 
     fn swap(&mut self, i: usize, expected: u64, new: u64) -> Result<bool, Refusal> {
-        if i >= self.bytes.len() / 8 {
+        if i >= self.len() {
             return Err(Refusal::NoSuchWord);
         }
-        if self.at(i) != expected {
+        if self.get(i) != expected {
             return Ok(false);
         }
-        write(self.bytes, i, new);
+        self.put(i, new);
         Ok(true)
     }
 }

@@ -1,6 +1,7 @@
 // A kept memory that is lent: a `&mut` to a kept memory is one, with the same row.
 // So code that takes a memory by value can be handed one that its caller keeps.
-ghost use mathlib.Core.Path.{_≡_};
+// Lend a memory over a slice to generic code in this way: the caller then still knows what its slice holds.
+// Where such a memory goes into generic code by value, the caller's proof keeps no more than the slice's length.
 ghost use Prim.Native.Nat.{ℕ};
 ghost use denote.Ref.{name, now};
 use crate::kept::KeptMemory;

@@ -35,8 +35,8 @@ fn store_in_bytes(bytes: &mut [u8], i: usize, w: u64)
 
 // A store through a window of any memory that is lent, and the whole row of that memory after it.
 fn store_in_window<M: KeptMemory>(memory: &mut M, base: usize, size: usize, i: usize, w: u64)
-    ensures after { λ _. ⌜ M·KeptMemory .words (now (memory .exit)) ≡ below-stored (M·KeptMemory .words (now (memory .entry))) base size i w ⌝ }
-    ensures same { λ _. ⌜ M·KeptMemory .rest (now (memory .exit)) ≡ M·KeptMemory .rest (now (memory .entry)) ⌝ }
+    ensures after { λ _. ⌜ words (now (memory .exit)) ≡ below-stored (words (now (memory .entry))) base size i w ⌝ }
+    ensures same { λ _. ⌜ rest (now (memory .exit)) ≡ rest (now (memory .entry)) ⌝ }
 {
     let mut window = Window::new(memory, base, size);
     let _ = window.store(i, w);

@@ -5,9 +5,10 @@ ghost use mathlib.Core.Bool.{true};
 ghost use mathlib.Core.Path.{_≡_};
 ghost use mathlib.Core.List.{List};
 ghost use Prim.Native.Nat.{ℕ, _+_, _^_, _<_};
+ghost use lib.ListN.{length};
 ghost use denote.Ref.{now};
 ghost use Rattle.memory.specs.Row.{stored, swapped, row-stored, row-swapped};
-ghost use Rattle.memory.specs.Seen.{fits-in, fitting, seen, size-seen, beside-seen, below-stored, below-swapped, Cut-through-window};
+ghost use Rattle.memory.specs.Seen.{fits-in, fitting, seen, size-seen, Same-word, shown, beside-shown, below-stored, below-swapped, Cut-through-window};
 use crate::kept::KeptMemory;
 use crate::kept::Refusal;
 
@@ -30,17 +31,13 @@ impl<M: KeptMemory> Window<M> {
     pub fn into_inner(self) -> M
         ensures { λ r. ⌜ r ≡ self .memory ⌝ }
     {
-        let Window {
-            memory,
-            base: _,
-            size: _,
-        } = self;
+        let Window { memory, .. } = self;
         memory
     }
 
     // Refused where the window does not fit.
     pub fn fits(&self) -> Result<(), Refusal>
-        ensures { λ r. ⌜ r ≡ fitting (M·KeptMemory .words (now (self .entry) .memory)) (now (self .entry) .base) (now (self .entry) .size) ⌝ }
+        ensures { λ r. ⌜ r ≡ fitting (words (now (self .entry) .memory)) (now (self .entry) .base) (now (self .entry) .size) ⌝ }
     {
         if self.is_within() {
             Ok(())
@@ -51,7 +48,7 @@ impl<M: KeptMemory> Window<M> {
 
     // Whether the window fits; its end is then a number that does not wrap.
     fn is_within(&self) -> bool
-        ensures value { λ r. ⌜ r ≡ fits-in (M·KeptMemory .words (now (self .entry) .memory)) (now (self .entry) .base) (now (self .entry) .size) ⌝ }
+        ensures value { λ r. ⌜ r ≡ fits-in (words (now (self .entry) .memory)) (now (self .entry) .base) (now (self .entry) .size) ⌝ }
         ensures room { λ r. ⌜ (r ≡ true → now (self .entry) .base + now (self .entry) .size < 2 ^ 64) ⌝ }
     {
         let count = self.memory.count();
@@ -60,57 +57,69 @@ impl<M: KeptMemory> Window<M> {
 
     // How many words are seen: all of the window's, or none where it does not fit.
     fn len(&self) -> usize
-        ensures value { λ r. ⌜ r ≡ size-seen (M·KeptMemory .words (now (self .entry) .memory)) (now (self .entry) .base) (now (self .entry) .size) ⌝ }
+        ensures value { λ r. ⌜ r ≡ size-seen (words (now (self .entry) .memory)) (now (self .entry) .base) (now (self .entry) .size) ⌝ }
         ensures room { λ r. ⌜ (0 < r → now (self .entry) .base + r < 2 ^ 64) ⌝ }
+        ensures row { λ r. ⌜ r ≡ length (seen (words (now (self .entry) .memory)) (now (self .entry) .base) (now (self .entry) .size)) ⌝ }
     {
         if self.is_within() { self.size } else { 0 }
+    }
+
+    // The number that the window's word `i`, which is there, has in the memory below.
+    fn place(&self, i: usize) -> usize
+        requires there { ⌜ i < size-seen (words (now self .memory)) (now self .base) (now self .size) ⌝ }
+        requires room { ⌜ now self .base + i < 2 ^ 64 ⌝ }
+        ensures value { λ r. ⌜ r ≡ now (self .entry) .base + i ⌝ }
+        ensures same { λ r. ⌜ Same-word (words (now (self .entry) .memory)) (now (self .entry) .base) (now (self .entry) .size) i r ⌝ }
+    {
+        self.base + i
     }
 }
 
 pub impl<M: KeptMemory> KeptMemory for Window<M> as WindowKeptMemory {
-    ghost words = { λ s. seen (M·KeptMemory .words (s .memory)) (s .base) (s .size) };
+    // The words of the memory below that the window shows.
+    ghost words = { shown (M·KeptMemory .words) };
 
     // Where the window lies, the words before and after it, and what the memory below leaves.
     ghost Rest = { ℕ × ℕ × (List ℕ × List ℕ) × M·KeptMemory .Rest };
 
-    ghost rest = { λ s. beside-seen (M·KeptMemory .words (s .memory)) (s .base) (s .size) (M·KeptMemory .rest (s .memory)) };
+    ghost rest = { beside-shown (M·KeptMemory .words) (M·KeptMemory .rest) };
 
     fn count(&self) -> usize {
         self.len()
     }
 
     fn load(&self, i: usize) -> Result<u64, Refusal> {
-        if i < self.len() {
-            self.memory.load(self.base + i)
-        } else {
-            Err(Refusal::NoSuchWord)
+        if i >= self.len() {
+            return Err(Refusal::NoSuchWord);
         }
+        let place = self.place(i);
+        self.memory.load(place)
     }
 
     fn store(&mut self, i: usize, w: u64) -> Result<(), Refusal>
-        ensures answer { λ r. ⌜ r ≡ stored (seen (M·KeptMemory .words (now (self .entry) .memory)) (now (self .entry) .base) (now (self .entry) .size)) i ⌝ }
-        ensures row { λ _. ⌜ seen (M·KeptMemory .words (now (self .exit) .memory)) (now (self .exit) .base) (now (self .exit) .size) ≡ row-stored (seen (M·KeptMemory .words (now (self .entry) .memory)) (now (self .entry) .base) (now (self .entry) .size)) i w ⌝ }
-        ensures beside { λ _. ⌜ beside-seen (M·KeptMemory .words (now (self .exit) .memory)) (now (self .exit) .base) (now (self .exit) .size) (M·KeptMemory .rest (now (self .exit) .memory)) ≡ beside-seen (M·KeptMemory .words (now (self .entry) .memory)) (now (self .entry) .base) (now (self .entry) .size) (M·KeptMemory .rest (now (self .entry) .memory)) ⌝ }
-        ensures around { λ _. ⌜ M·KeptMemory .words (now (self .exit) .memory) ≡ below-stored (M·KeptMemory .words (now (self .entry) .memory)) (now (self .entry) .base) (now (self .entry) .size) i w ⌝ }
+        ensures answer { λ r. ⌜ r ≡ stored (shown words (now (self .entry))) i ⌝ }
+        ensures row { λ _. ⌜ shown words (now (self .exit)) ≡ row-stored (shown words (now (self .entry))) i w ⌝ }
+        ensures beside { λ _. ⌜ beside-shown words rest (now (self .exit)) ≡ beside-shown words rest (now (self .entry)) ⌝ }
+        ensures around { λ _. ⌜ words (now (self .exit) .memory) ≡ below-stored (words (now (self .entry) .memory)) (now (self .entry) .base) (now (self .entry) .size) i w ⌝ }
     {
-        if i < self.len() {
-            self.memory.store(self.base + i, w)
-        } else {
-            Err(Refusal::NoSuchWord)
+        if i >= self.len() {
+            return Err(Refusal::NoSuchWord);
         }
+        let place = self.place(i);
+        self.memory.store(place, w)
     }
 
     fn swap(&mut self, i: usize, expected: u64, new: u64) -> Result<bool, Refusal>
-        ensures answer { λ r. ⌜ r ≡ swapped (seen (M·KeptMemory .words (now (self .entry) .memory)) (now (self .entry) .base) (now (self .entry) .size)) i expected ⌝ }
-        ensures row { λ _. ⌜ seen (M·KeptMemory .words (now (self .exit) .memory)) (now (self .exit) .base) (now (self .exit) .size) ≡ row-swapped (seen (M·KeptMemory .words (now (self .entry) .memory)) (now (self .entry) .base) (now (self .entry) .size)) i expected new ⌝ }
-        ensures beside { λ _. ⌜ beside-seen (M·KeptMemory .words (now (self .exit) .memory)) (now (self .exit) .base) (now (self .exit) .size) (M·KeptMemory .rest (now (self .exit) .memory)) ≡ beside-seen (M·KeptMemory .words (now (self .entry) .memory)) (now (self .entry) .base) (now (self .entry) .size) (M·KeptMemory .rest (now (self .entry) .memory)) ⌝ }
-        ensures around { λ _. ⌜ M·KeptMemory .words (now (self .exit) .memory) ≡ below-swapped (M·KeptMemory .words (now (self .entry) .memory)) (now (self .entry) .base) (now (self .entry) .size) i expected new ⌝ }
+        ensures answer { λ r. ⌜ r ≡ swapped (shown words (now (self .entry))) i expected ⌝ }
+        ensures row { λ _. ⌜ shown words (now (self .exit)) ≡ row-swapped (shown words (now (self .entry))) i expected new ⌝ }
+        ensures beside { λ _. ⌜ beside-shown words rest (now (self .exit)) ≡ beside-shown words rest (now (self .entry)) ⌝ }
+        ensures around { λ _. ⌜ words (now (self .exit) .memory) ≡ below-swapped (words (now (self .entry) .memory)) (now (self .entry) .base) (now (self .entry) .size) i expected new ⌝ }
     {
-        if i < self.len() {
-            self.memory.swap(self.base + i, expected, new)
-        } else {
-            Err(Refusal::NoSuchWord)
+        if i >= self.len() {
+            return Err(Refusal::NoSuchWord);
         }
+        let place = self.place(i);
+        self.memory.swap(place, expected, new)
     }
 }
 

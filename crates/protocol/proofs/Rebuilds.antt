@@ -12,7 +12,7 @@ use Rattle.protocol.specs.declared.numbers.Refusal.the-variants.{BrokenChain, 
 use Rattle.protocol.specs.declared.table.Table.{Table}
 use Rattle.protocol.specs.declared.table.Tally.{Tally}
 use Rattle.protocol.specs.Layout.{word, next-at, low-at, key-at, value-at, page-count}
-use Rattle.protocol.specs.ValueWord.{number-of}
+use Rattle.values.specs.ValueWord.{number-of}
 use Rattle.protocol.specs.Fields.{page-at}
 use Rattle.protocol.specs.Rebuild.{listing, chain-from, low-rises, lows-from, placed, tallied, slots-from, page-surveyed, pages-from}
 

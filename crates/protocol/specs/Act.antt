@@ -19,7 +19,7 @@ use Rattle.protocol.specs.declared.moves.Move.{Move}
 use Rattle.protocol.specs.Layout.{key-at, value-at}
 use Rattle.protocol.specs.Fields.{page-at}
 use Rattle.protocol.specs.Search.{found, new-page, new-slot}
-use Rattle.protocol.specs.ValueWord.{cleared}
+use Rattle.values.specs.ValueWord.{cleared}
 use Rattle.protocol.specs.Moves.{moves, goes, turns, answers, rests}
 
 -- Found, with no split of the page or in its copy phase: change stores its word, remove stores 0 as key, look loads; each is done.

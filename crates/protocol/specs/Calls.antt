@@ -19,7 +19,7 @@ use Rattle.protocol.specs.declared.table.Runner.{Runner}
 use Rattle.protocol.specs.declared.table.Table.{Table}
 use Rattle.protocol.specs.declared.moves.Move.{Move}
 use Rattle.protocol.specs.Numbers.{operation-of}
-use Rattle.protocol.specs.ValueWord.{fresh-word}
+use Rattle.values.specs.ValueWord.{fresh-word}
 use Rattle.protocol.specs.Fields.{idle-runner, runner-at, with-runner, activity}
 use Rattle.protocol.specs.Search.{first-from, is-some}
 use Rattle.protocol.specs.Plan.{planned}

@@ -1,5 +1,4 @@
 pub mod Numbers
-pub mod ValueWord
 pub mod Layout
 pub mod Fields
 pub mod Search

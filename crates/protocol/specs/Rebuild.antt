@@ -13,7 +13,7 @@ use Rattle.protocol.specs.declared.numbers.Refusal.the-variants.{WrongLength, 
 use Rattle.protocol.specs.declared.table.Table.{Table}
 use Rattle.protocol.specs.declared.table.Tally.{Tally}
 use Rattle.protocol.specs.Layout.{word, next-at, low-at, key-at, value-at, page-count, right-length}
-use Rattle.protocol.specs.ValueWord.{number-of}
+use Rattle.values.specs.ValueWord.{number-of}
 use Rattle.protocol.specs.Fields.{page-at, with-page}
 use Rattle.protocol.specs.Search.{found}
 use Rattle.protocol.specs.Make.{bare-table}

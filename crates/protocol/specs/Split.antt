@@ -16,7 +16,7 @@ use Rattle.protocol.specs.declared.moves.Move.{Move}
 use Rattle.protocol.specs.Layout.{word, next-at, low-at, key-at, value-at}
 use Rattle.protocol.specs.Fields.{runner-at, page-at, copy-at, with-progress}
 use Rattle.protocol.specs.Search.{on-right, new-page, live-from, standing-from, first-pending, preceding}
-use Rattle.protocol.specs.ValueWord.{marked, cleared}
+use Rattle.values.specs.ValueWord.{marked, cleared}
 use Rattle.protocol.specs.Moves.{splits}
 use Rattle.protocol.specs.Act.{pending}
 

@@ -1,4 +1,4 @@
-// The bay book's protocol: the plain types of the table, the numbers, the value words, and in specs/ the definitions of
+// The bay book's protocol: the plain types of the table, the numbers, and in specs/ the definitions of
 // what make, rebuild, begin, step and collect do to row and table.
 pub mod fields;
 pub mod layout;
@@ -7,4 +7,3 @@ pub mod numbers;
 pub mod record;
 pub mod rows;
 pub mod table;
-pub mod value_word;

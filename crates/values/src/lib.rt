@@ -1,0 +1,2 @@
+// Value words: mark, change number and value in one word.
+pub mod value_word;
