@@ -118,7 +118,7 @@ fn locate_in<M: KeptMemory, K: KeyKind>(
     }
 }
 
-// Change, remove and look hold the covering page and go to acting; enter tests that page.
+// Change, remove and look hold the covering page and go to acting; enter tries that page.
 pub fn locate<M: KeptMemory, K: KeyKind>(
     memory: &M,
     table: &Table,

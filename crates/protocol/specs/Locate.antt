@@ -133,7 +133,7 @@ entering before ws t r k p (InSync s) = turns r Helping
 entering before ws t r k p (InLink s) = turns r Helping
 entering before ws t r k p Left = entering-page before ws t r p (found ws (page-at t p .committed) p k)
 
--- Change, remove and look hold the covering page and go to acting; enter tests that page.
+-- Change, remove and look hold the covering page and go to acting; enter tries that page.
 abbrev pub locating-page : (ℕ → ℕ → Bool) → List ℕ → Table → ℕ → ℕ → ℕ → Operation → Move
 locating-page before ws t r k p Enter = entering before ws t r k p (standing t p)
 locating-page before ws t r k p Change = turns r (Acting p)
