@@ -3,9 +3,6 @@ ghost use mathlib.Core.Path.{_≡_};
 ghost use mathlib.Core.Bool.{Bool};
 ghost use Rattle.protocol.specs.Act.{acting-found, acting, syncing-found, acting-in-sync, reading, linking-as, acting-in-link, clearing-new, pending-new, pending-at, pending, comparing, comparing-swap};
 ghost use Rattle.protocol.specs.Search.{new-page, new-slot};
-use search::find_slot;
-use search::new_page;
-use search::new_slot;
 use keys::kind::KeyKind;
 use memory::kept::KeptMemory;
 use protocol::layout::key_at;
@@ -19,6 +16,9 @@ use protocol::table::Runner;
 use protocol::table::Split;
 use protocol::table::Stage;
 use protocol::table::Table;
+use search::find_slot;
+use search::new_page;
+use search::new_slot;
 use values::value_word::cleared;
 
 const DONE: Stage = Stage::Answered {

@@ -2,9 +2,9 @@
 ghost use mathlib.Core.Path.{_≡_};
 ghost use Rattle.protocol.specs.Settle.{performed, outcome};
 use memory::kept::KeptMemory;
-use search::word;
 use protocol::moves::Access;
 use protocol::moves::Outcome;
+use search::word;
 
 pub(crate) fn perform<M: KeptMemory>(memory: &mut M, access: Access) -> Outcome
     ensures row { λ _. ⌜ M·KeptMemory .words (now (memory .exit)) ≡ performed (M·KeptMemory .words (now (memory .entry))) access ⌝ }

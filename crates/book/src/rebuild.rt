@@ -11,9 +11,6 @@ use crate::book::bare_table;
 use crate::make::size_refusal;
 use keys::kind::KeyKind;
 use memory::kept::KeptMemory;
-use search::find_slot;
-use search::word;
-use search::pages_of;
 use protocol::layout::key_at;
 use protocol::layout::low_at;
 use protocol::layout::next_at;
@@ -22,6 +19,9 @@ use protocol::numbers::Refusal;
 use protocol::table::PageRow;
 use protocol::table::Table;
 use protocol::table::Tally;
+use search::find_slot;
+use search::pages_of;
+use search::word;
 use values::value_word::number_of;
 
 // The page stands in the list before `next`.

@@ -6,8 +6,6 @@ ghost use lib.ListN.{length};
 ghost use Rattle.std.specs.declared.option.Option.the-variants.{Some, None};
 ghost use Rattle.protocol.specs.Search.{first-from, is-some};
 ghost use Rattle.protocol.specs.Locate.{holds-page, live-key, live-keys, key-count, rank, split-key, in-split, free, round-after, round-page, free-from, new-split, starts, into-one, into-second, into-two, starting-with, starting};
-use search::pages_of;
-use search::word;
 use keys::kind::KeyKind;
 use memory::kept::KeptMemory;
 use protocol::layout::key_at;
@@ -22,6 +20,8 @@ use protocol::table::Progress;
 use protocol::table::Split;
 use protocol::table::Stage;
 use protocol::table::Table;
+use search::pages_of;
+use search::word;
 
 fn key_of_live<M: KeptMemory>(memory: &M, bits: u8, page: u8, slot: u8) -> u64
     ensures { λ r. ⌜ r ≡ live-key (M·KeptMemory .words (now (memory .entry))) bits page slot ⌝ }

@@ -2,6 +2,7 @@
 ghost use mathlib.Core.Path.{_≡_};
 ghost use mathlib.Core.Bool.{Bool};
 ghost use Rattle.protocol.specs.Plan.{helping, commits, planned-at, planned};
+use crate::splitting::split_step;
 use act::act;
 use act::act_in_link;
 use act::act_in_sync;
@@ -9,9 +10,8 @@ use act::compare;
 use act::compare_swap;
 use act::pend;
 use act::read;
-use locate::locate;
-use crate::splitting::split_step;
 use keys::kind::KeyKind;
+use locate::locate;
 use memory::kept::KeptMemory;
 use protocol::layout::key_at;
 use protocol::layout::value_at;

@@ -34,18 +34,19 @@ module _ (text : List ℕ) (i v : ℕ) (s : Left text i v) where
   pub left-more : i < length text → asciiDigit (getD text i 0) ≡ true → Left text (i + 1) (10 * v + (getD text i 0 - 48))
   left-more h d = record {
     digits = sym (rw d at (at-drop-more allDigits text i 0 h)) ∙ s .digits;
-    says = ap (λ n. valueAfter 10 n (drop (i + 1) text)) (sym (next-value d)) ∙ sym (at-drop-more (valueAfter 10 v) text i 0 h) ∙ s .says }
+    says = ap (λ n. valueAfter 10 n (drop (i + 1) text)) (sym (next-value d)) ∙ sym (at-drop-more (valueAfter 10 v) text i 0 h) ∙ s .says;
+  }
 
   pub left-no-digit : (most : ℕ) → i < length text → asciiDigit (getD text i 0) ≡ false → None ≡ number-read text most
   left-no-digit most h d =
-    let e : allDigits text ≡ false = sym (s .digits) ∙ rw d at (at-drop-more allDigits text i 0 h) in
-    grind (arith, tells)
+      let e : allDigits text ≡ false = sym (s .digits) ∙ rw d at (at-drop-more allDigits text i 0 h) in
+      grind (arith, tells)
 
   pub left-all : (most : ℕ) → length text ≤ i → 0 < length text → v ≤ most → Some v ≡ number-read text most
   left-all most h some m =
-    let e : allDigits text ≡ true = sym (s .digits) ∙ at-drop-all allDigits text i h in
-    let f : value 10 text ≡ v = sym (s .says) ∙ at-drop-all (valueAfter 10 v) text i h in
-    grind (arith, tells)
+      let e : allDigits text ≡ true = sym (s .digits) ∙ at-drop-all allDigits text i h in
+      let f : value 10 text ≡ v = sym (s .says) ∙ at-drop-all (valueAfter 10 v) text i h in
+      grind (arith, tells)
 
 -- a value that is too large after some digits stays too large
 pub left-too-much : (text : List ℕ) (i v most : ℕ) → Left text i v → most < v → None ≡ number-read text most

@@ -4,7 +4,11 @@ use answers::AnswerLine;
 use std::alloc::AllocError;
 
 // Prints the line from a byte on.
-pub(crate) fn put_answer(line: AnswerLine, from: usize, out: &mut Printout) -> Result<(), AllocError> {
+pub(crate) fn put_answer(
+    line: AnswerLine,
+    from: usize,
+    out: &mut Printout,
+) -> Result<(), AllocError> {
     let mut buffer = [0; 32];
     match line.write(&mut buffer) {
         Ok(size) => out.put_part(&buffer, from, size),

@@ -12,7 +12,11 @@ use protocol::numbers::Refusal;
 use std::alloc::AllocError;
 
 // Steps of a runner, up to the first refusal.
-fn step<M: KeptMemory, K: KeyText>(book: &mut Book<M, K>, runner: u32, times: u32) -> Result<(), Refusal> {
+fn step<M: KeptMemory, K: KeyText>(
+    book: &mut Book<M, K>,
+    runner: u32,
+    times: u32,
+) -> Result<(), Refusal> {
     for _ in 0..times {
         book.step(runner)?;
     }
@@ -31,18 +35,35 @@ fn finish<M: KeptMemory, K: KeyText>(book: &mut Book<M, K>, runner: u32) -> Resu
     Ok(u32::MAX)
 }
 
-fn put_finish<M: KeptMemory, K: KeyText>(book: &mut Book<M, K>, runner: u32, out: &mut Printout) -> Result<(), AllocError> {
+fn put_finish<M: KeptMemory, K: KeyText>(
+    book: &mut Book<M, K>,
+    runner: u32,
+    out: &mut Printout,
+) -> Result<(), AllocError> {
     match finish(book, runner) {
         Ok(count) => writeln!(out, "{count} steps"),
         Err(refusal) => out.put_refusal(refusal.number()),
     }
 }
 
-fn put_collect<M: KeptMemory, K: KeyText>(book: &mut Book<M, K>, runner: u32, zeros: usize, out: &mut Printout) -> Result<(), AllocError> {
+fn put_collect<M: KeptMemory, K: KeyText>(
+    book: &mut Book<M, K>,
+    runner: u32,
+    zeros: usize,
+    out: &mut Printout,
+) -> Result<(), AllocError> {
     match book.collect(runner) {
         Ok((answer, value)) => {
             out.put_zeros(zeros)?;
-            put_answer(AnswerLine { runner, answer: answer.number() as u32, value }, 0, out)
+            put_answer(
+                AnswerLine {
+                    runner,
+                    answer: answer.number() as u32,
+                    value,
+                },
+                0,
+                out,
+            )
         }
         Err(refusal) => out.put_refusal(refusal.number()),
     }
@@ -56,7 +77,10 @@ fn put_word<M: KeptMemory>(memory: &M, at: usize, out: &mut Printout) -> Result<
 }
 
 // What a rebuild would find.
-fn put_survey<M: KeptMemory, K: KeyText>(book: &Book<M, K>, out: &mut Printout) -> Result<(), AllocError> {
+fn put_survey<M: KeptMemory, K: KeyText>(
+    book: &Book<M, K>,
+    out: &mut Printout,
+) -> Result<(), AllocError> {
     match book.survey(1) {
         Ok(table) => {
             let count = put_pairs::<M, K>(book.memory(), &table, out)?;
@@ -67,12 +91,24 @@ fn put_survey<M: KeptMemory, K: KeyText>(book: &Book<M, K>, out: &mut Printout) 
 }
 
 // Does what a line asks for, and prints what comes of it. Lines that end the book's life are not for here.
-pub(crate) fn perform<M: KeptMemory, K: KeyText>(book: &mut Book<M, K>, command: Command, out: &mut Printout) -> Result<(), AllocError> {
+pub(crate) fn perform<M: KeptMemory, K: KeyText>(
+    book: &mut Book<M, K>,
+    command: Command,
+    out: &mut Printout,
+) -> Result<(), AllocError> {
     match command {
         Command::Make(runners) => out.put_call(book.make(runners)),
         Command::Rebuild(runners) => out.put_call(book.rebuild(runners)),
-        Command::Begin { runner, operation, key: Ok(key), value } => out.put_call(book.begin(runner, operation, key, value)),
-        Command::Begin { key: Err(refusal), .. } => out.put_refusal(refusal.number()),
+        Command::Begin {
+            runner,
+            operation,
+            key: Ok(key),
+            value,
+        } => out.put_call(book.begin(runner, operation, key, value)),
+        Command::Begin {
+            key: Err(refusal),
+            ..
+        } => out.put_refusal(refusal.number()),
         Command::Step { runner, times } => out.put_call(step(book, runner, times)),
         Command::Finish(runner) => put_finish(book, runner, out),
         Command::Collect { runner, zeros } => put_collect(book, runner, zeros, out),

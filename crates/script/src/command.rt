@@ -25,17 +25,31 @@ pub(crate) enum Command {
     Make(u32),
     Rebuild(u32),
     // `key` is the key, or why it cannot be made
-    Begin { runner: u32, operation: u32, key: Result<u64, Refusal>, value: u32 },
-    Step { runner: u32, times: u32 },
+    Begin {
+        runner: u32,
+        operation: u32,
+        key: Result<u64, Refusal>,
+        value: u32,
+    },
+    Step {
+        runner: u32,
+        times: u32,
+    },
     Finish(u32),
     // `zeros` are those that the script writes before the runner's number
-    Collect { runner: u32, zeros: usize },
+    Collect {
+        runner: u32,
+        zeros: usize,
+    },
     // the supply fails between two calls, or inside a step before its write
     Cut,
     // the supply fails inside a step of the runner, after its write
     CutAfter(u32),
     // writes a word by hand
-    Set { at: usize, word: u64 },
+    Set {
+        at: usize,
+        word: u64,
+    },
     Word(usize),
     Pairs,
     Show,

@@ -27,12 +27,17 @@ use std::alloc::AllocError;
 use std::alloc::Global;
 
 // One book, closed at first.
-fn live_book<M: KeptMemory, K: KeyText>(book: &mut Book<M, K>, reader: &mut Reader, out: &mut Printout) -> Result<Option<Command>, AllocError>
+fn live_book<M: KeptMemory, K: KeyText>(
+    book: &mut Book<M, K>,
+    reader: &mut Reader,
+    out: &mut Printout,
+) -> Result<Option<Command>, AllocError>
     ensures { λ r. ⌜ made r (λ line. Read-on (now (now (reader .entry) .rest)) (now (now (reader .exit) .rest)) line) ⌝ }
 {
     while let Some(command) = reader.next() {
         match command {
-            Command::Memory(..) | Command::Kind(_) | Command::Cut | Command::Set { .. } => return Ok(Some(command)),
+            Command::Memory(..) | Command::Kind(_) | Command::Cut | Command::Set { .. } =>
+                return Ok(Some(command)),
             Command::CutAfter(runner) => {
                 let _ = book.step(runner);
                 return Ok(Some(Command::Cut));
@@ -44,7 +49,11 @@ fn live_book<M: KeptMemory, K: KeyText>(book: &mut Book<M, K>, reader: &mut Read
 }
 
 // One book after another, under one kind.
-fn live_kind<M: KeptMemory, K: KeyText>(memory: &mut M, reader: &mut Reader, out: &mut Printout) -> Result<Option<Command>, AllocError>
+fn live_kind<M: KeptMemory, K: KeyText>(
+    memory: &mut M,
+    reader: &mut Reader,
+    out: &mut Printout,
+) -> Result<Option<Command>, AllocError>
     ensures { λ r. ⌜ made r (λ line. Read-on (now (now (reader .entry) .rest)) (now (now (reader .exit) .rest)) line) ⌝ }
 {
     loop {
@@ -61,7 +70,12 @@ fn live_kind<M: KeptMemory, K: KeyText>(memory: &mut M, reader: &mut Reader, out
 }
 
 // One kind after another, on one memory.
-fn live_memory<M: KeptMemory>(memory: &mut M, kind: &mut Kind, reader: &mut Reader, out: &mut Printout) -> Result<Option<Command>, AllocError>
+fn live_memory<M: KeptMemory>(
+    memory: &mut M,
+    kind: &mut Kind,
+    reader: &mut Reader,
+    out: &mut Printout,
+) -> Result<Option<Command>, AllocError>
     ensures { λ r. ⌜ made r (λ line. Read-on (now (now (reader .entry) .rest)) (now (now (reader .exit) .rest)) line) ⌝ }
 {
     loop {
@@ -76,28 +90,61 @@ fn live_memory<M: KeptMemory>(memory: &mut M, kind: &mut Kind, reader: &mut Read
     }
 }
 
-fn live_words(heap: Global, size: usize, kind: &mut Kind, reader: &mut Reader, out: &mut Printout) -> Result<Option<Command>, AllocError>
+fn live_words(
+    heap: Global,
+    size: usize,
+    kind: &mut Kind,
+    reader: &mut Reader,
+    out: &mut Printout,
+) -> Result<Option<Command>, AllocError>
     ensures { λ r. ⌜ made r (λ line. Read-on (now (now (reader .entry) .rest)) (now (now (reader .exit) .rest)) line) ⌝ }
 {
     let mut row = vec![in heap; 0u64; size]?;
     live_memory(&mut FlatMemory::new(row.as_mut_slice()), kind, reader, out)
 }
 
-fn live_bytes(heap: Global, size: usize, kind: &mut Kind, reader: &mut Reader, out: &mut Printout) -> Result<Option<Command>, AllocError>
+fn live_bytes(
+    heap: Global,
+    size: usize,
+    kind: &mut Kind,
+    reader: &mut Reader,
+    out: &mut Printout,
+) -> Result<Option<Command>, AllocError>
     ensures { λ r. ⌜ made r (λ line. Read-on (now (now (reader .entry) .rest)) (now (now (reader .exit) .rest)) line) ⌝ }
 {
     let mut bytes = vec![in heap; 0u8; size]?;
-    live_memory(&mut ByteMemory::new(bytes.as_mut_slice()), kind, reader, out)
+    live_memory(
+        &mut ByteMemory::new(bytes.as_mut_slice()),
+        kind,
+        reader,
+        out,
+    )
 }
 
 // One memory after another. What is asked for before the first one is unreadable.
-pub(crate) fn live(heap: Global, reader: &mut Reader, out: &mut Printout) -> Result<(), AllocError> {
+pub(crate) fn live(
+    heap: Global,
+    reader: &mut Reader,
+    out: &mut Printout,
+) -> Result<(), AllocError> {
     let mut kind = Kind::Place;
     let mut next = reader.next();
     while let Some(command) = next {
         next = match command {
-            Command::Memory(Backing::Words, size) => live_words(heap, size, &mut kind, reader, out)?,
-            Command::Memory(Backing::Bytes, size) => live_bytes(heap, size, &mut kind, reader, out)?,
+            Command::Memory(Backing::Words, size) => live_words(
+                heap,
+                size,
+                &mut kind,
+                reader,
+                out,
+            )?,
+            Command::Memory(Backing::Bytes, size) => live_bytes(
+                heap,
+                size,
+                &mut kind,
+                reader,
+                out,
+            )?,
             Command::Nothing => reader.next(),
             _ => {
                 let line = reader.line();

@@ -6,8 +6,8 @@ use protocol::fields;
 use protocol::layout::key_at;
 use protocol::layout::value_at;
 use protocol::table::Table;
-use values::value_word::value_of;
 use std::alloc::AllocError;
+use values::value_word::value_of;
 
 const MOST_PAGES: u8 = 64;
 
@@ -19,7 +19,11 @@ fn word<M: KeptMemory>(memory: &M, at: usize) -> u64 {
 }
 
 // Prints the pairs of a page, and gives how many they are.
-fn put_page<M: KeptMemory, K: KeyText>(memory: &M, page: u8, out: &mut Printout) -> Result<u64, AllocError> {
+fn put_page<M: KeptMemory, K: KeyText>(
+    memory: &M,
+    page: u8,
+    out: &mut Printout,
+) -> Result<u64, AllocError> {
     let mut count: u64 = 0;
     for slot in 0..8 {
         let key = word(memory, key_at(page, slot));
@@ -34,7 +38,11 @@ fn put_page<M: KeptMemory, K: KeyText>(memory: &M, page: u8, out: &mut Printout)
 }
 
 // Prints the pairs in the pages of the list, and gives how many they are.
-pub(crate) fn put_pairs<M: KeptMemory, K: KeyText>(memory: &M, table: &Table, out: &mut Printout) -> Result<u64, AllocError> {
+pub(crate) fn put_pairs<M: KeptMemory, K: KeyText>(
+    memory: &M,
+    table: &Table,
+    out: &mut Printout,
+) -> Result<u64, AllocError> {
     let mut count: u64 = 0;
     let mut page = table.first;
     for _ in 0..MOST_PAGES {

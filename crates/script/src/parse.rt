@@ -20,7 +20,11 @@ fn half(text: &[u8]) -> Option<u32>
 
 // The same, where it may be left out.
 fn half_or(text: &[u8], absent: u32) -> Option<u32> {
-    if text.len() == 0 { Some(absent) } else { half(text) }
+    if text.len() == 0 {
+        Some(absent)
+    } else {
+        half(text)
+    }
 }
 
 // A number of 64 bits.
@@ -92,7 +96,10 @@ fn step(rest: &[u8]) -> Option<Command> {
     let (runner, rest) = cut_word(rest);
     let (times, rest) = cut_word(rest);
     end(rest)?;
-    Some(Command::Step { runner: half(runner)?, times: half_or(times, 1)? })
+    Some(Command::Step {
+        runner: half(runner)?,
+        times: half_or(times, 1)?,
+    })
 }
 
 // A runner that can be collected has one digit: all before it are zeros.
@@ -100,7 +107,10 @@ fn collect(rest: &[u8]) -> Option<Command> {
     let (word, rest) = cut_word(rest);
     end(rest)?;
     let runner = half(word)?;
-    Some(Command::Collect { runner, zeros: word.len().saturating_sub(1) })
+    Some(Command::Collect {
+        runner,
+        zeros: word.len().saturating_sub(1),
+    })
 }
 
 fn cut(rest: &[u8]) -> Option<Command> {
@@ -120,7 +130,10 @@ fn set(rest: &[u8]) -> Option<Command> {
     let (at, rest) = cut_word(rest);
     let (word, rest) = cut_word(rest);
     end(rest)?;
-    Some(Command::Set { at: whole(at)? as usize, word: whole(word)? })
+    Some(Command::Set {
+        at: whole(at)? as usize,
+        word: whole(word)?,
+    })
 }
 
 fn word(rest: &[u8]) -> Option<Command> {

@@ -13,7 +13,9 @@ pub(crate) struct Printout {
 
 impl Printout {
     pub(crate) fn new(heap: Global) -> Printout {
-        Printout { text: String::new(heap) }
+        Printout {
+            text: String::new(heap),
+        }
     }
 
     pub(crate) fn into_text(self) -> String {
@@ -30,7 +32,12 @@ impl Printout {
     }
 
     // A part of some bytes that are all below 128.
-    pub(crate) fn put_part(&mut self, bytes: &[u8], from: usize, to: usize) -> Result<(), AllocError> {
+    pub(crate) fn put_part(
+        &mut self,
+        bytes: &[u8],
+        from: usize,
+        to: usize,
+    ) -> Result<(), AllocError> {
         for b in bytes.iter().take(to).skip(from) {
             self.text.push(char::from(*b))?;
         }

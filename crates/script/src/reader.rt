@@ -13,7 +13,10 @@ pub(crate) struct Reader<'a> {
 
 impl<'a> Reader<'a> {
     pub(crate) fn new(script: &'a [u8]) -> Reader<'a> {
-        Reader { rest: script, line: 0 }
+        Reader {
+            rest: script,
+            line: 0,
+        }
     }
 
     // The number of the line read last.

@@ -12,8 +12,8 @@ use protocol::table::Runner;
 use protocol::table::Split;
 use protocol::table::Stage;
 use protocol::table::Table;
-use values::value_word::value_of;
 use std::alloc::AllocError;
+use values::value_word::value_of;
 
 const MOST_PAGES: u8 = 64;
 
@@ -105,14 +105,32 @@ fn put_stage(stage: Stage, out: &mut Printout) -> Result<(), AllocError> {
     match stage {
         Stage::Idle | Stage::Answered { .. } => writeln!(out, ""),
         Stage::Locating => writeln!(out, " locating"),
-        Stage::WritingValue { page, slot } => writeln!(out, " writing page {page} slot {slot} step 1"),
-        Stage::WritingKey { page, slot } => writeln!(out, " writing page {page} slot {slot} step 2"),
-        Stage::Committing { page, slot } => writeln!(out, " writing page {page} slot {slot} step 3"),
+        Stage::WritingValue { page, slot } => writeln!(
+            out,
+            " writing page {page} slot {slot} step 1"
+        ),
+        Stage::WritingKey { page, slot } => writeln!(
+            out,
+            " writing page {page} slot {slot} step 2"
+        ),
+        Stage::Committing { page, slot } => writeln!(
+            out,
+            " writing page {page} slot {slot} step 3"
+        ),
         Stage::Helping => writeln!(out, " helping"),
         Stage::Acting { page } => writeln!(out, " acting page {page}"),
-        Stage::PendingNew { page, slot } => writeln!(out, " pending page {page} slot {slot} step 1"),
-        Stage::PendingOld { page, slot, .. } => writeln!(out, " pending page {page} slot {slot} step 2"),
-        Stage::PendingSwap { page, slot, .. } => writeln!(out, " pending page {page} slot {slot} step 3"),
+        Stage::PendingNew { page, slot } => writeln!(
+            out,
+            " pending page {page} slot {slot} step 1"
+        ),
+        Stage::PendingOld { page, slot, .. } => writeln!(
+            out,
+            " pending page {page} slot {slot} step 2"
+        ),
+        Stage::PendingSwap { page, slot, .. } => writeln!(
+            out,
+            " pending page {page} slot {slot} step 3"
+        ),
         Stage::PendingRemove { page } => writeln!(out, " pending page {page} step 1"),
         Stage::Comparing { page, .. } => writeln!(out, " comparing page {page} step 1"),
         Stage::ComparingSwap { page, .. } => writeln!(out, " comparing page {page} step 2"),
@@ -121,13 +139,25 @@ fn put_stage(stage: Stage, out: &mut Printout) -> Result<(), AllocError> {
 }
 
 // `number` is the runner's, from 1.
-fn put_runner<K: KeyText>(number: u8, runner: Runner, out: &mut Printout) -> Result<(), AllocError> {
+fn put_runner<K: KeyText>(
+    number: u8,
+    runner: Runner,
+    out: &mut Printout,
+) -> Result<(), AllocError> {
     write!(out, "  runner {number}: ")?;
     match runner.stage {
         Stage::Idle => writeln!(out, "idle"),
         Stage::Answered { answer, value } => {
             write!(out, "answered ")?;
-            put_answer(AnswerLine { runner: number as u32, answer: answer.number() as u32, value }, 2, out)
+            put_answer(
+                AnswerLine {
+                    runner: number as u32,
+                    answer: answer.number() as u32,
+                    value,
+                },
+                2,
+                out,
+            )
         }
         _ => {
             put_operation::<K>(runner, out)?;
@@ -150,7 +180,10 @@ pub(crate) fn put_table<K: KeyText>(table: &Table, out: &mut Printout) -> Result
     let runners = table.count;
     let round = table.round;
     let last = table.last;
-    writeln!(out, "  open: runners {runners}, round at page {round}, last number {last}")?;
+    writeln!(
+        out,
+        "  open: runners {runners}, round at page {round}, last number {last}"
+    )?;
     put_pages(table, out)?;
     put_any_split::<K>(table.split, out)?;
     put_runners::<K>(table, out)
