@@ -1,8 +1,6 @@
 // A book over a kept memory. The memory outlives a cut, the table does not: a cut is to take the memory back and to start closed again.
 ghost use mathlib.Core.Path.{_≡_};
-ghost use Rattle.protocol.specs.Make.{bare-table, closed-table};
-use protocol::table::PageRow;
-use protocol::table::Runner;
+ghost use Rattle.protocol.specs.Make.{closed-table};
 use protocol::table::Table;
 use std::marker::PhantomData;
 
@@ -13,22 +11,6 @@ pub struct Book<M, K> {
     kind: PhantomData<K>,
 }
 
-// A table with every runner idle, no page listed and no split.
-pub(crate) fn bare_table(opened: bool, count: u8, first: u8) -> Table
-    ensures { λ r. ⌜ r ≡ bare-table opened count first ⌝ }
-{
-    Table {
-        opened,
-        count,
-        runners: [Runner::idle(); 8],
-        first,
-        pages: [PageRow::none(); 65],
-        split: None,
-        round: 1,
-        last: 0,
-    }
-}
-
 impl<M, K> Book<M, K> {
     // No book is open over the memory yet.
     pub fn closed(memory: M) -> Book<M, K>
@@ -36,7 +18,7 @@ impl<M, K> Book<M, K> {
     {
         Book {
             memory,
-            table: bare_table(false, 0, 0),
+            table: Table::bare(false, 0, 0),
             kind: PhantomData,
         }
     }

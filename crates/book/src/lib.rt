@@ -3,7 +3,5 @@ mod begin;
 pub mod book;
 mod collect;
 mod make;
-mod perform;
 mod rebuild;
-mod settle;
 mod step;

@@ -4,29 +4,14 @@ ghost use mathlib.Core.List.{List};
 ghost use Prim.Native.Nat.{ℕ};
 ghost use lib.ListN.{length};
 ghost use Rattle.protocol.specs.Make.{made-table, all-stored, make-stores};
-ghost use Rattle.protocol.specs.Rebuild.{size-refusal};
 ghost use Rattle.protocol.specs.Calls.{made};
 use crate::book::Book;
-use crate::book::bare_table;
 use keys::kind::KeyKind;
 use memory::kept::KeptMemory;
 use protocol::numbers::Refusal;
 use protocol::table::PageRow;
 use protocol::table::Table;
-
-// Why a row or a count of runners is not taken.
-pub(crate) fn size_refusal<M: KeptMemory>(memory: &M, runners: u32) -> Option<Refusal>
-    ensures { λ r. ⌜ r ≡ size-refusal (M·KeptMemory .words (now (memory .entry))) runners ⌝ }
-{
-    let count = memory.count();
-    if count < 37 || (count - 1) % 18 != 0 || (count - 1) / 18 > 64 {
-        return Some(Refusal::WrongLength);
-    }
-    if runners < 1 || runners > 8 {
-        return Some(Refusal::WrongCount);
-    }
-    None
-}
+use survey::size_refusal;
 
 fn store_all<M: KeptMemory>(memory: &mut M, stores: &[(usize, u64)])
     ensures row { λ _. ⌜ M·KeptMemory .words (now (memory .exit)) ≡ all-stored (M·KeptMemory .words (now (memory .entry))) (now (stores .entry)) ⌝ }
@@ -40,7 +25,7 @@ fn store_all<M: KeptMemory>(memory: &mut M, stores: &[(usize, u64)])
 fn new_table(count: u8) -> Table
     ensures { λ r. ⌜ r ≡ made-table count ⌝ }
 {
-    let mut table = bare_table(true, count, 1);
+    let mut table = Table::bare(true, count, 1);
     table.set_page(
         1,
         PageRow {

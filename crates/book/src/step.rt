@@ -4,14 +4,14 @@ ghost use mathlib.Core.Bool.{Bool};
 ghost use Prim.Native.Nat.{ℕ, _-_};
 ghost use Rattle.protocol.specs.Calls.{runner-refusal, stepped};
 use crate::book::Book;
-use crate::perform::perform;
-use crate::settle::settle;
 use keys::kind::KeyKind;
 use memory::kept::KeptMemory;
 use plan::plan;
 use protocol::numbers::Refusal;
 use protocol::table::Activity;
 use protocol::table::Table;
+use settle::perform;
+use settle::settle;
 
 // Begin, step and collect want an open book, then a runner from 1 to the count given.
 pub(crate) fn runner_refusal(table: &Table, runner: u32) -> Option<Refusal>

@@ -2,6 +2,7 @@
 ghost use mathlib.Core.Path.{_≡_};
 ghost use Rattle.protocol.specs.Fields.{idle-runner, runner-at, with-runner, page-at, with-page, held, activity as stage-activity, pending-on, phase as progress-phase, in-phase, standing-in, standing as page-standing, not-copied, copy-at};
 use crate::numbers::Operation;
+ghost use Rattle.protocol.specs.Make.{bare-table};
 use crate::table::Activity;
 use crate::table::NewSlot;
 use crate::table::PageRow;
@@ -120,6 +121,22 @@ fn standing_in(split: Option<Split>, page: u8) -> Standing
 }
 
 impl Table {
+    // Every runner idle, no page listed and no split.
+    pub fn bare(opened: bool, count: u8, first: u8) -> Table
+        ensures { λ r. ⌜ r ≡ bare-table opened count first ⌝ }
+    {
+        Table {
+            opened,
+            count,
+            runners: [Runner::idle(); 8],
+            first,
+            pages: [PageRow::none(); 65],
+            split: None,
+            round: 1,
+            last: 0,
+        }
+    }
+
     // The record of a runner, numbered from 0.
     pub fn runner_at(&self, i: usize) -> Runner
         ensures { λ r. ⌜ r ≡ runner-at (now (self .entry)) i ⌝ }

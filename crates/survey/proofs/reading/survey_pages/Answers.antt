@@ -3,8 +3,8 @@ use native.Mathlib.Omega.{arith}
 use mathlib.Core.Path.{sym, _∙_}
 use Rattle.std.proofs.shelf.Results.{err-from-errBy}
 use Rattle.protocol.proofs.Rebuilds.{pages-more, pages-none}
-use Rattle.book.proofs.Walks.{survey-step, survey-refused}
-use Rattle.book.proofs.rebuild.survey_pages.Needs as need
+use Rattle.survey.proofs.Walks.{survey-step, survey-refused}
+use Rattle.survey.proofs.reading.survey_pages.Needs as need
 
 pub returns-then-page-eq0 : need.returns-then-page-eq0
 returns-then-page-eq0 g c = let e = pages-more (g .K·KeyKind .key) (g .K·KeyKind .before) (g .M·KeptMemory .words (c .args .memory .now)) (c .loop-i .-i) 64 (c .loop-i .found) (c .loop-i .page) (omega arith) in search needs

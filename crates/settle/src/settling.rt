@@ -196,7 +196,7 @@ fn settle_rest(table: &mut Table, rest: TableNext, outcome: Outcome)
 }
 
 // The table after a move and its outcome: the runner's record first, then the rest.
-pub(crate) fn settle(table: &mut Table, step: Move, outcome: Outcome)
+pub fn settle(table: &mut Table, step: Move, outcome: Outcome)
     ensures { λ _. ⌜ now (table .exit) ≡ settled (now (table .entry)) step outcome ⌝ }
 {
     let runner = table.runner_at(step.runner);

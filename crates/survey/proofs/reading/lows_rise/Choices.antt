@@ -1,7 +1,7 @@
 use mathlib.Core.Path.{_≡_}
 use Prim.Native.Nat.{_-_}
 use Rattle.protocol.specs.Rebuild.{lows-from}
-use Rattle.book.proofs.rebuild.lows_rise.Given as given
+use Rattle.survey.proofs.reading.lows_rise.Given as given
 
 abbrev pub Inv-loop-i : given.InvT-loop-i
 Inv-loop-i g l =

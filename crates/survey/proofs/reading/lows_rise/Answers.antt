@@ -1,7 +1,7 @@
 use borrow.Author.Needs.{needs}
 use native.Mathlib.Omega.{arith}
 use Rattle.protocol.proofs.Rebuilds.{lows-more, lows-none}
-use Rattle.book.proofs.rebuild.lows_rise.Needs as need
+use Rattle.survey.proofs.reading.lows_rise.Needs as need
 
 pub loop-i-again : need.loop-i-again
 loop-i-again g c =

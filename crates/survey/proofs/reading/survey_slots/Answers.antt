@@ -1,7 +1,7 @@
 use borrow.Author.Needs.{needs}
 use native.Mathlib.Omega.{arith}
 use Rattle.protocol.proofs.Rebuilds.{slots-more, slots-none}
-use Rattle.book.proofs.rebuild.survey_slots.Needs as need
+use Rattle.survey.proofs.reading.survey_slots.Needs as need
 
 pub loop-slot-again-then-word-eq0 : need.loop-slot-again-then-word-eq0
 loop-slot-again-then-word-eq0 g c =

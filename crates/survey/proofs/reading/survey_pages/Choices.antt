@@ -2,7 +2,7 @@ use mathlib.Core.Path.{_≡_}
 use Prim.Native.Nat.{_-_}
 use Rattle.std.specs.declared.result.Result.the-variants.{Ok}
 use Rattle.protocol.specs.Rebuild.{pages-from}
-use Rattle.book.proofs.rebuild.survey_pages.Given as given
+use Rattle.survey.proofs.reading.survey_pages.Given as given
 
 abbrev pub Inv-loop-i : given.InvT-loop-i
 Inv-loop-i g l =

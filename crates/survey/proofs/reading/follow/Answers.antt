@@ -2,8 +2,8 @@ use borrow.Author.Needs.{needs}
 use native.Mathlib.Omega.{arith}
 use Rattle.protocol.proofs.Rebuilds.{chain-more, chain-none}
 use mathlib.Core.Path.{_∙_}
-use Rattle.book.proofs.Walks.{follow-step}
-use Rattle.book.proofs.rebuild.follow.Needs as need
+use Rattle.survey.proofs.Walks.{follow-step}
+use Rattle.survey.proofs.reading.follow.Needs as need
 
 pub loop-i-again : need.loop-i-again
 loop-i-again g c =

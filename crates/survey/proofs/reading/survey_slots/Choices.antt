@@ -1,7 +1,7 @@
 use mathlib.Core.Path.{_≡_}
 use Prim.Native.Nat.{_-_}
 use Rattle.protocol.specs.Rebuild.{slots-from}
-use Rattle.book.proofs.rebuild.survey_slots.Given as given
+use Rattle.survey.proofs.reading.survey_slots.Given as given
 
 abbrev pub Inv-loop-slot : given.InvT-loop-slot
 Inv-loop-slot g l =

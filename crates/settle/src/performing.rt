@@ -6,7 +6,7 @@ use protocol::moves::Access;
 use protocol::moves::Outcome;
 use search::word;
 
-pub(crate) fn perform<M: KeptMemory>(memory: &mut M, access: Access) -> Outcome
+pub fn perform<M: KeptMemory>(memory: &mut M, access: Access) -> Outcome
     ensures row { λ _. ⌜ M·KeptMemory .words (now (memory .exit)) ≡ performed (M·KeptMemory .words (now (memory .entry))) access ⌝ }
     ensures answer { λ r. ⌜ r ≡ outcome (M·KeptMemory .words (now (memory .entry))) access ⌝ }
     ensures beside { λ _. ⌜ M·KeptMemory .rest (now (memory .exit)) ≡ M·KeptMemory .rest (now (memory .entry)) ⌝ }

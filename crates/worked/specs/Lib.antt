@@ -1,0 +1,3 @@
+pub mod Script
+pub mod Run
+pub mod Examples
