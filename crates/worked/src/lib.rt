@@ -1,5 +1,5 @@
 // The worked examples of the bay book: specs/Examples.antt has the table, specs/Script.antt the language that it is written in, and specs/Run.antt what
-// each line gives by the definitions of keys, memory and protocol. The calls of the book are proved equal to these definitions.
+// each line gives by the definitions of keys, memory and protocol. The contracts of the book's calls cite the same definitions.
 ghost use mathlib.Core.Path.{_≡_};
 ghost use lib.ListN.{length};
 ghost use Rattle.worked.specs.Run.{All-hold};

@@ -11,5 +11,8 @@ use Rattle.worked.specs.Examples.{examples}
 use Rattle.worked.proofs.example_count.Needs as need
 
 pub returns : need.returns
-unfolding examples given told steps page-pairs list-pairs plate.bytes-good plate.word-of plate.text-of plate.text-before search.first-from search.cover-from locate.key-count locate.rank locate.ranked make.all-stored rebuild.chain-from rebuild.lows-from rebuild.slots-from rebuild.pages-from
+unfolding examples given told steps page-pairs list-pairs
+    plate.bytes-good plate.word-of plate.text-of plate.text-before
+    search.first-from search.cover-from locate.key-count locate.rank locate.ranked
+    make.all-stored rebuild.chain-from rebuild.lows-from rebuild.slots-from rebuild.pages-from
 returns c = record { value = refl; answer = refl }
