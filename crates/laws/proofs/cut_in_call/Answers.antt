@@ -1,0 +1,5 @@
+use Rattle.laws.proofs.Cuts as laws
+use Rattle.laws.proofs.cut_in_call.Needs as need
+
+pub returns : need.returns
+returns c = laws.cut-in-call
