@@ -1,12 +1,12 @@
 // What the lines of a script do to a book while it lives.
 use crate::answer::put_answer;
-use crate::command::Command;
 use crate::key_text::KeyText;
 use crate::pairs::put_pairs;
 use crate::printout::Printout;
 use crate::show::put_table;
 use answers::AnswerLine;
 use book::book::Book;
+use commands::command::Command;
 use memory::kept::KeptMemory;
 use protocol::numbers::Refusal;
 use std::alloc::AllocError;
@@ -55,15 +55,12 @@ fn put_collect<M: KeptMemory, K: KeyText>(
     match book.collect(runner) {
         Ok((answer, value)) => {
             out.put_zeros(zeros)?;
-            put_answer(
-                AnswerLine {
-                    runner,
-                    answer: answer.number() as u32,
-                    value,
-                },
-                0,
-                out,
-            )
+            let line = AnswerLine {
+                runner,
+                answer: answer.number() as u32,
+                value,
+            };
+            put_answer(line, 0, out)
         }
         Err(refusal) => out.put_refusal(refusal.number()),
     }
@@ -82,15 +79,12 @@ fn put_survey<M: KeptMemory, K: KeyText>(
     out: &mut Printout,
 ) -> Result<(), AllocError> {
     match book.survey(1) {
-        Ok(table) => {
-            let count = put_pairs::<M, K>(book.memory(), &table, out)?;
-            writeln!(out, "{count} pairs")
-        }
+        Ok(table) => put_pairs::<M, K>(book.memory(), &table, out),
         Err(refusal) => out.put_refusal(refusal.number()),
     }
 }
 
-// Does what a line asks for, and prints what comes of it. Lines that end the book's life are not for here.
+// Does what a line asks for, and prints what comes of it. Lines that end a book's life do nothing here.
 pub(crate) fn perform<M: KeptMemory, K: KeyText>(
     book: &mut Book<M, K>,
     command: Command,
@@ -116,6 +110,7 @@ pub(crate) fn perform<M: KeptMemory, K: KeyText>(
         Command::Pairs => put_survey(book, out),
         Command::Show => put_table::<K>(&book.table(), out),
         Command::Unreadable(line) => writeln!(out, "unreadable {line}"),
-        _ => Ok(()),
+        Command::Nothing | Command::Memory(..) | Command::Kind(_) => Ok(()),
+        Command::Cut | Command::CutAfter(_) | Command::Set { .. } => Ok(()),
     }
 }

@@ -1,27 +1,23 @@
-// Scripts for the bench: reading them, and running them on a book.
+// Scripts for the bench: running one on a book, and what it prints.
 mod answer;
 mod calls;
-mod command;
-mod key;
 mod key_text;
-mod lives;
-mod number;
+mod pages;
 mod pairs;
-mod parse;
 mod printout;
-mod reader;
+mod run;
 mod show;
-mod text;
+mod stages;
 
-use lives::live;
+use commands::reader::Reader;
 use printout::Printout;
-use reader::Reader;
+use run::run_script;
 use std::alloc::AllocError;
 use std::alloc::Global;
 
 // What a script prints.
 pub fn printed(heap: Global, script: &[u8]) -> Result<String, AllocError> {
     let mut out = Printout::new(heap);
-    live(heap, &mut Reader::new(script), &mut out)?;
+    run_script(heap, &mut Reader::new(script), &mut out)?;
     Ok(out.into_text())
 }

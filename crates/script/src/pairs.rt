@@ -1,15 +1,14 @@
 // The pairs that stand in a row.
 use crate::key_text::KeyText;
+use crate::pages::Pages;
+use crate::pages::PagesIterator;
 use crate::printout::Printout;
 use memory::kept::KeptMemory;
-use protocol::fields;
 use protocol::layout::key_at;
 use protocol::layout::value_at;
 use protocol::table::Table;
 use std::alloc::AllocError;
 use values::value_word::value_of;
-
-const MOST_PAGES: u8 = 64;
 
 fn word<M: KeptMemory>(memory: &M, at: usize) -> u64 {
     match memory.load(at) {
@@ -37,20 +36,15 @@ fn put_page<M: KeptMemory, K: KeyText>(
     Ok(count)
 }
 
-// Prints the pairs in the pages of the list, and gives how many they are.
+// Prints the pairs in the pages of the list, and how many they are.
 pub(crate) fn put_pairs<M: KeptMemory, K: KeyText>(
     memory: &M,
     table: &Table,
     out: &mut Printout,
-) -> Result<u64, AllocError> {
+) -> Result<(), AllocError> {
     let mut count: u64 = 0;
-    let mut page = table.first;
-    for _ in 0..MOST_PAGES {
-        if page == 0 {
-            break;
-        }
+    for page in Pages::of(table) {
         count = count.saturating_add(put_page::<M, K>(memory, page, out)?);
-        page = table.page_at(page).next;
     }
-    Ok(count)
+    writeln!(out, "{count} pairs")
 }

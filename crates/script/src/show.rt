@@ -1,13 +1,16 @@
 // The state of a book, for a person: its table, line by line.
 use crate::answer::put_answer;
 use crate::key_text::KeyText;
+use crate::pages::Pages;
+use crate::pages::PagesIterator;
 use crate::printout::Printout;
+use crate::stages::put_progress;
+use crate::stages::put_stage;
 use answers::AnswerLine;
 use protocol::fields;
 use protocol::numbers::Operation;
 use protocol::rows;
 use protocol::table::PageRow;
-use protocol::table::Progress;
 use protocol::table::Runner;
 use protocol::table::Split;
 use protocol::table::Stage;
@@ -15,127 +18,71 @@ use protocol::table::Table;
 use std::alloc::AllocError;
 use values::value_word::value_of;
 
-const MOST_PAGES: u8 = 64;
-
-fn put_page(page: u8, row: PageRow, out: &mut Printout) -> Result<(), AllocError> {
-    let taken = row.taken;
-    write!(out, "  page {page}: taken {taken}, committed")?;
-    if row.committed == 0 {
-        write!(out, " none")?;
-    }
+fn put_slots(row: PageRow, out: &mut Printout) -> Result<(), AllocError> {
     for slot in 0..8 {
         if row.is_committed(slot) {
             write!(out, " {slot}")?;
         }
     }
-    writeln!(out, "")
+    if row.committed == 0 {
+        writeln!(out, " none")
+    } else {
+        writeln!(out, "")
+    }
 }
 
 fn put_pages(table: &Table, out: &mut Printout) -> Result<(), AllocError> {
-    let mut page = table.first;
-    for _ in 0..MOST_PAGES {
-        if page == 0 {
-            break;
-        }
+    for page in Pages::of(table) {
         let row = table.page_at(page);
-        put_page(page, row, out)?;
-        page = row.next;
+        let taken = row.taken;
+        write!(out, "  page {page}: taken {taken}, committed")?;
+        put_slots(row, out)?;
     }
     Ok(())
 }
 
-// The next step of a split; `two` is whether it has two new pages.
-fn put_progress(progress: Progress, two: bool, out: &mut Printout) -> Result<(), AllocError> {
-    let (keys, words) = if two { (16, 4) } else { (8, 2) };
-    match progress {
-        Progress::Clearing { done } => writeln!(out, "copy clearing {done} of {keys}"),
-        Progress::LeftNext => writeln!(out, "copy header 0 of {words}"),
-        Progress::LeftLow => writeln!(out, "copy header 1 of {words}"),
-        Progress::RightNext => writeln!(out, "copy header 2 of {words}"),
-        Progress::RightLow => writeln!(out, "copy header 3 of {words}"),
-        Progress::Copying { slot } => writeln!(out, "copy slot {slot} step 1"),
-        Progress::CopyingValue { slot, .. } => writeln!(out, "copy slot {slot} step 2"),
-        Progress::CopyingKey { slot, .. } => writeln!(out, "copy slot {slot} step 3"),
-        Progress::Syncing { slot } => writeln!(out, "sync slot {slot} step 1"),
-        Progress::SyncingNew { slot, .. } => writeln!(out, "sync slot {slot} step 2"),
-        Progress::SyncingSwap { slot, .. } => writeln!(out, "sync slot {slot} step 3"),
-        Progress::Linking => writeln!(out, "link not stored"),
-        Progress::Finishing => writeln!(out, "link stored"),
+fn put_new_pages(left: u8, right: u8, out: &mut Printout) -> Result<(), AllocError> {
+    if right == 0 {
+        write!(out, "{left}")
+    } else {
+        write!(out, "{left} and {right}")
     }
 }
 
 fn put_split<K: KeyText>(split: Split, out: &mut Printout) -> Result<(), AllocError> {
     let old = split.old;
-    let left = split.left;
-    let right = split.right;
-    write!(out, "  split: page {old} into {left}")?;
-    if right != 0 {
-        write!(out, " and {right}")?;
-    }
+    write!(out, "  split: page {old} into ")?;
+    put_new_pages(split.left, split.right, out)?;
     write!(out, " at ")?;
     K::put_key(split.key, out)?;
     write!(out, ", ")?;
-    put_progress(split.progress, right != 0, out)
+    put_progress(split.progress, split.right != 0, out)?;
+    writeln!(out, "")
 }
 
-fn put_any_split<K: KeyText>(split: Option<Split>, out: &mut Printout) -> Result<(), AllocError> {
-    match split {
-        Some(split) => put_split::<K>(split, out),
-        None => writeln!(out, "  no split"),
+fn operation_name(operation: Operation) -> &'static str {
+    match operation {
+        Operation::Enter => "enter",
+        Operation::Change => "change",
+        Operation::Remove => "remove",
+        Operation::Look => "look",
     }
 }
 
-// What an open runner was asked to do.
-fn put_operation<K: KeyText>(runner: Runner, out: &mut Printout) -> Result<(), AllocError> {
-    let value = value_of(runner.word);
-    match runner.operation {
-        Operation::Enter => write!(out, "enter ")?,
-        Operation::Change => write!(out, "change ")?,
-        Operation::Remove => write!(out, "remove ")?,
-        Operation::Look => write!(out, "look ")?,
-    }
+// What an open runner was asked for, and where it stands.
+fn put_open<K: KeyText>(runner: Runner, out: &mut Printout) -> Result<(), AllocError> {
+    let name = operation_name(runner.operation);
+    write!(out, "{name} ")?;
     K::put_key(runner.key, out)?;
     match runner.operation {
-        Operation::Enter | Operation::Change => write!(out, " {value}"),
-        Operation::Remove | Operation::Look => Ok(()),
+        Operation::Enter | Operation::Change => {
+            let value = value_of(runner.word);
+            write!(out, " {value} ")?
+        }
+        Operation::Remove | Operation::Look => write!(out, " ")?,
     }
-}
-
-fn put_stage(stage: Stage, out: &mut Printout) -> Result<(), AllocError> {
-    match stage {
-        Stage::Idle | Stage::Answered { .. } => writeln!(out, ""),
-        Stage::Locating => writeln!(out, " locating"),
-        Stage::WritingValue { page, slot } => writeln!(
-            out,
-            " writing page {page} slot {slot} step 1"
-        ),
-        Stage::WritingKey { page, slot } => writeln!(
-            out,
-            " writing page {page} slot {slot} step 2"
-        ),
-        Stage::Committing { page, slot } => writeln!(
-            out,
-            " writing page {page} slot {slot} step 3"
-        ),
-        Stage::Helping => writeln!(out, " helping"),
-        Stage::Acting { page } => writeln!(out, " acting page {page}"),
-        Stage::PendingNew { page, slot } => writeln!(
-            out,
-            " pending page {page} slot {slot} step 1"
-        ),
-        Stage::PendingOld { page, slot, .. } => writeln!(
-            out,
-            " pending page {page} slot {slot} step 2"
-        ),
-        Stage::PendingSwap { page, slot, .. } => writeln!(
-            out,
-            " pending page {page} slot {slot} step 3"
-        ),
-        Stage::PendingRemove { page } => writeln!(out, " pending page {page} step 1"),
-        Stage::Comparing { page, .. } => writeln!(out, " comparing page {page} step 1"),
-        Stage::ComparingSwap { page, .. } => writeln!(out, " comparing page {page} step 2"),
-        Stage::Reading { page } => writeln!(out, " reading page {page}"),
-    }
+    put_stage(runner.stage, out)?;
+    writeln!(out, "")
 }
 
 // `number` is the runner's, from 1.
@@ -149,20 +96,14 @@ fn put_runner<K: KeyText>(
         Stage::Idle => writeln!(out, "idle"),
         Stage::Answered { answer, value } => {
             write!(out, "answered ")?;
-            put_answer(
-                AnswerLine {
-                    runner: number as u32,
-                    answer: answer.number() as u32,
-                    value,
-                },
-                2,
-                out,
-            )
+            let line = AnswerLine {
+                runner: number as u32,
+                answer: answer.number() as u32,
+                value,
+            };
+            put_answer(line, 2, out)
         }
-        _ => {
-            put_operation::<K>(runner, out)?;
-            put_stage(runner.stage, out)
-        }
+        _ => put_open::<K>(runner, out),
     }
 }
 
@@ -185,6 +126,9 @@ pub(crate) fn put_table<K: KeyText>(table: &Table, out: &mut Printout) -> Result
         "  open: runners {runners}, round at page {round}, last number {last}"
     )?;
     put_pages(table, out)?;
-    put_any_split::<K>(table.split, out)?;
+    match table.split {
+        Some(split) => put_split::<K>(split, out)?,
+        None => writeln!(out, "  no split")?,
+    }
     put_runners::<K>(table, out)
 }
