@@ -52,7 +52,7 @@ with-stage x s = record { operation = x .operation; key = x .key; word = x .word
 abbrev pub no-page : PageRow
 no-page = record { listed = false; next = 0; taken = 0; committed = 0 }
 
--- Pages are numbered from 1 to 64; any other number is no page.
+-- Pages are numbered from 1 to 64. Row 0 is nobody's, and past 64 there is no page.
 abbrev pub page-at : Table → ℕ → PageRow
 page-at t p = cond (ltb p 65) (getD (t .pages) p no-page) no-page
 
