@@ -1,3 +1,5 @@
+#![tactic(auto)]
+
 mod line;
 mod put;
 mod refusal;

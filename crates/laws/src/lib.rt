@@ -1,4 +1,6 @@
 // Laws of the bay book's protocol: each function does nothing, and its contract is a law of the definitions of the five calls.
+#![tactic(auto)]
+
 ghost use Rattle.laws.specs.Rows.{RowsByAccesses, RowsKeepLength};
 ghost use Rattle.laws.specs.Writes.{StepWritesOne};
 ghost use Rattle.laws.specs.Cuts.{CutInStores, FrontsOfMake, CutInCall};

@@ -1,4 +1,6 @@
 // Locating: where a key belongs, and how a split is started.
+#![tactic(auto)]
+
 mod locating;
 mod start;
 

@@ -1,4 +1,6 @@
 // The bench: reads a script from standard input and prints what it comes to.
+#![tactic(auto)]
+
 use script::printed;
 use std::io;
 use std::io::Read;

@@ -1,4 +1,6 @@
 // Scripts for the bench: running one on a book, and what it prints.
+#![tactic(auto)]
+
 mod answer;
 mod calls;
 mod key_text;

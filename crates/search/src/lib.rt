@@ -1,4 +1,6 @@
 // What a step reads before it acts: key words, low words and the table.
+#![tactic(auto)]
+
 mod search;
 
 pub use search::{

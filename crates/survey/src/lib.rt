@@ -1,4 +1,6 @@
 // What a rebuild finds in the row, and why it is sent back.
+#![tactic(auto)]
+
 mod reading;
 
 pub use reading::{size_refusal, survey};

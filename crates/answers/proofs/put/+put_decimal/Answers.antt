@@ -20,18 +20,18 @@ returns-then-number-lt10 t c =
     let e = one c.args.number c.if-number-lt10.true in
     record { value = omega (arith, c.put.ensures.value); after = rw e.0 c.put.ensures.after }
 
-pub put-decimal-last-requires : goal.put-decimal-last-requires
-put-decimal-last-requires t c =
+pub put_decimal-last-requires : goal.put_decimal-last-requires
+put_decimal-last-requires t c =
     let e = more c.args.number c.if-number-lt10.false c.ranges.number.fits in
     (omega arith, omega arith)
 
 pub put-requires-2 : goal.put-requires-2
 put-requires-2 t c =
     let e = more c.args.number c.if-number-lt10.false c.ranges.number.fits in
-    omega (arith, c.put-decimal-last.ensures.value)
+    omega (arith, c.put_decimal-last.ensures.value)
 
 pub returns : goal.returns
 returns t c =
     let e = more c.args.number c.if-number-lt10.false c.ranges.number.fits in
-    let m = with_text_more c.args.buffer.now c.args.at (decimal (c.args.number / 10)) ((48 + c.args.number % 10) ∷ []) _ (omega arith) c.put-decimal-last.ensures.value in
-    record { value = omega arith; after = cc (c.put-2.ensures.after, c.put-decimal-last.ensures.after) }
+    let m = with_text_more c.args.buffer.now c.args.at (decimal (c.args.number / 10)) ((48 + c.args.number % 10) ∷ []) _ (omega arith) c.put_decimal-last.ensures.value in
+    record { value = omega arith; after = cc (c.put-2.ensures.after, c.put_decimal-last.ensures.after) }

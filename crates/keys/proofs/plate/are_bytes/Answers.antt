@@ -4,17 +4,17 @@ use Rattle.keys.specs.PlateWord.{bytes_good}
 use Rattle.keys.specs.PlateWords.{bytes_more}
 use Rattle.keys.proofs.plate.are_bytes.Goals as goal
 
-pub returns-then-not-is-byte : goal.returns-then-not-is-byte
-returns-then-not-is-byte c =
+pub returns-then-not-is_byte : goal.returns-then-not-is_byte
+returns-then-not-is_byte c =
     let xs = c.args.text.now in
     let i = c.loop-b.b-index in
-    ap (λ t. t && bytes_good (drop (i + 1) xs)) c.if-not-is-byte.ensures ∙ sym (bytes_more xs i (omega arith)) ∙ c.loop-b.invariant
+    ap (λ t. t && bytes_good (drop (i + 1) xs)) c.if-not-is_byte.ensures ∙ sym (bytes_more xs i (omega arith)) ∙ c.loop-b.invariant
 
 pub loop-b-preserved : goal.loop-b-preserved
 loop-b-preserved c =
     let xs = c.args.text.now in
     let i = c.loop-b.b-index in
-    ap (λ t. t && bytes_good (drop (i + 1) xs)) c.if-not-is-byte.ensures ∙ sym (bytes_more xs i (omega arith)) ∙ c.loop-b.invariant
+    ap (λ t. t && bytes_good (drop (i + 1) xs)) c.if-not-is_byte.ensures ∙ sym (bytes_more xs i (omega arith)) ∙ c.loop-b.invariant
 
 pub returns : goal.returns
 unfolding bytes_good

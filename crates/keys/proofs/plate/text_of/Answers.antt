@@ -9,5 +9,5 @@ low_seven b = get_or b 1 0 ∷ get_or b 2 0 ∷ get_or b 3 0 ∷ get_or b 4 0 �
 pub returns : goal.returns
 unfolding low_seven
 returns c =
-    let e = ap low_seven c.to-be-bytes.ensures ∙ sym (padded_text c.args.w c.requires) in
-    λ i. record { bytes = e i; size = c.text-size.ensures i }
+    let e = ap low_seven c.to_be_bytes.ensures ∙ sym (padded_text c.args.w c.requires) in
+    λ i. record { bytes = e i; size = c.text_size.ensures i }

@@ -6,8 +6,8 @@ pub loop-i-preserved : goal.loop-i-preserved
 loop-i-preserved g c =
     let e = cover_more g.K.KeyKind.before (g.M.KeptMemory.words c.args.memory.now) c.args.table.now c.args.key c.loop-i.page c.loop-i.-i 64 (omega arith) in search rules
 
-pub returns-then-ends-before : goal.returns-then-ends-before
-returns-then-ends-before g c =
+pub returns-then-ends_before : goal.returns-then-ends_before
+returns-then-ends_before g c =
     let e = cover_more g.K.KeyKind.before (g.M.KeptMemory.words c.args.memory.now) c.args.table.now c.args.key c.loop-i.page c.loop-i.-i 64 (omega arith) in search rules
 
 pub returns : goal.returns

@@ -6,8 +6,8 @@ pub loop-slot-preserved-then-word-eq0 : goal.loop-slot-preserved-then-word-eq0
 loop-slot-preserved-then-word-eq0 g c =
     let e = slots_more g.K.KeyKind.key g.K.KeyKind.before (g.M.KeptMemory.words c.args.memory.now) c.args.low c.args.high c.args.page c.loop-slot.tally c.loop-slot.slot 8 (omega arith) in search rules
 
-pub returns-then-not-is-placed : goal.returns-then-not-is-placed
-returns-then-not-is-placed g c =
+pub returns-then-not-is_placed : goal.returns-then-not-is_placed
+returns-then-not-is_placed g c =
     let e = slots_more g.K.KeyKind.key g.K.KeyKind.before (g.M.KeptMemory.words c.args.memory.now) c.args.low c.args.high c.args.page c.loop-slot.tally c.loop-slot.slot 8 (omega arith) in search rules
 
 pub returns-then-number-eq0 : goal.returns-then-number-eq0

@@ -20,8 +20,8 @@ line_fits l room e small =
     let r = roomy l room e in
     omega arith
 
-pub put-decimal-at-requires : goal.put-decimal-at-requires
-put-decimal-at-requires c =
+pub put_decimal-at-requires : goal.put_decimal-at-requires
+put_decimal-at-requires c =
     let small : c.args.self.value < 4294967296 = search rules in
     omega (arith, line_fits c.args.self _ c.requires small, ap length c.words.ensures)
 
@@ -41,7 +41,7 @@ returns c =
     record { place = c.put-at.ensures.value; holds = c.put-at.ensures.after } in
     let b2 = begun_more (words l.answer) b1 (rw c.words.ensures at c.put-at-2.ensures.value) (rw c.words.ensures at c.put-at-2.ensures.after) in
     let b3 = begun_more (32 ∷ []) b2 c.put-at-3.ensures.value c.put-at-3.ensures.after in
-    let b4 = begun_more (decimal l.value) b3 c.put-decimal-at.ensures.value c.put-decimal-at.ensures.after in
+    let b4 = begun_more (decimal l.value) b3 c.put_decimal-at.ensures.value c.put_decimal-at.ensures.after in
     let b5 = begun_more (10 ∷ []) b4 c.put.ensures.value c.put.ensures.after in
     let whole = rw (joined (48 + l.runner) (words l.answer) (decimal l.value)) at b5 in
     let small : l.value < 18446744073709551616 = search rules in

@@ -19,5 +19,5 @@ returns c =
     record {
       value = search rules;
       after = (search rules, search rules);
-      bound = shorter c.args.self.now.rest.now c.cut-at.result.1.now c.if-self-eq0.false c.cut-at.ensures.back;
+      bound = shorter c.args.self.now.rest.now c.cut_at.result.1.now c.if-self-eq0.false c.cut_at.ensures.back;
     }
