@@ -32,7 +32,7 @@ impl<M: KeptMemory> Window<M> {
 
     // Refused where the window does not fit.
     pub fn fits(&self) -> Result<(), Refusal>
-        ensures { result ≡ fitting (words self.now.memory) self.now.base self.now.size }
+        ensures { result ≡ fitting (M.words self.now.memory) self.now.base self.now.size }
     {
         if self.is_within() {
             Ok(())
@@ -43,7 +43,7 @@ impl<M: KeptMemory> Window<M> {
 
     // Whether the window fits; its end is then a number that does not wrap.
     fn is_within(&self) -> bool
-        ensures value { result ≡ fits_in (words self.now.memory) self.now.base self.now.size }
+        ensures value { result ≡ fits_in (M.words self.now.memory) self.now.base self.now.size }
         ensures room { result ≡ true → self.now.base + self.now.size < 2 ^ 64 }
     {
         let count = self.memory.count();
@@ -52,19 +52,19 @@ impl<M: KeptMemory> Window<M> {
 
     // How many words are seen: all of the window's, or none where it does not fit.
     fn len(&self) -> usize
-        ensures value { result ≡ size_seen (words self.now.memory) self.now.base self.now.size }
+        ensures value { result ≡ size_seen (M.words self.now.memory) self.now.base self.now.size }
         ensures room { 0 < result → self.now.base + result < 2 ^ 64 }
-        ensures row { result ≡ length (seen (words self.now.memory) self.now.base self.now.size) }
+        ensures row { result ≡ length (seen (M.words self.now.memory) self.now.base self.now.size) }
     {
         if self.is_within() { self.size } else { 0 }
     }
 
     // The number that the window's word `i`, which is there, has in the memory below.
     fn place(&self, i: usize) -> usize
-        requires there { i < size_seen (words self.now.memory) self.now.base self.now.size }
+        requires there { i < size_seen (M.words self.now.memory) self.now.base self.now.size }
         requires room { self.now.base + i < 2 ^ 64 }
         ensures value { result ≡ self.now.base + i }
-        ensures same { SameWord (words self.now.memory) self.now.base self.now.size i result }
+        ensures same { SameWord (M.words self.now.memory) self.now.base self.now.size i result }
     {
         self.base + i
     }
@@ -92,10 +92,10 @@ impl<M: KeptMemory> KeptMemory for Window<M> {
     }
 
     fn store(&mut self, i: usize, w: u64) -> Result<(), Refusal>
-        ensures answer { result ≡ stored (shown words self.old) i }
-        ensures row { shown words self.new ≡ row_stored (shown words self.old) i w }
-        ensures beside { beside_shown words rest self.new ≡ beside_shown words rest self.old }
-        ensures around { words self.new.memory ≡ below_stored (words self.old.memory) self.old.base self.old.size i w }
+        ensures answer { result ≡ stored (shown M.words self.old) i }
+        ensures row { shown M.words self.new ≡ row_stored (shown M.words self.old) i w }
+        ensures beside { beside_shown M.words M.rest self.new ≡ beside_shown M.words M.rest self.old }
+        ensures around { M.words self.new.memory ≡ below_stored (M.words self.old.memory) self.old.base self.old.size i w }
     {
         if i >= self.len() {
             return Err(Refusal::NoSuchWord);
@@ -105,10 +105,10 @@ impl<M: KeptMemory> KeptMemory for Window<M> {
     }
 
     fn swap(&mut self, i: usize, expected: u64, new: u64) -> Result<bool, Refusal>
-        ensures answer { result ≡ swapped (shown words self.old) i expected }
-        ensures row { shown words self.new ≡ row_swapped (shown words self.old) i expected new }
-        ensures beside { beside_shown words rest self.new ≡ beside_shown words rest self.old }
-        ensures around { words self.new.memory ≡ below_swapped (words self.old.memory) self.old.base self.old.size i expected new }
+        ensures answer { result ≡ swapped (shown M.words self.old) i expected }
+        ensures row { shown M.words self.new ≡ row_swapped (shown M.words self.old) i expected new }
+        ensures beside { beside_shown M.words M.rest self.new ≡ beside_shown M.words M.rest self.old }
+        ensures around { M.words self.new.memory ≡ below_swapped (M.words self.old.memory) self.old.base self.old.size i expected new }
     {
         if i >= self.len() {
             return Err(Refusal::NoSuchWord);

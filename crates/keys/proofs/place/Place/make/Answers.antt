@@ -14,6 +14,6 @@ returns c =
     let b : c.cast_unsigned-level.result ≡ level_byte p.level =
     c.cast_unsigned-level.ensures ∙ ap (λ x. of_z w8 (to_z w8 (of_z w8 x))) (to_z-of_z w32 p.level f)
     ∙ ap (of_z w8) (to_z-of_z w8 p.level (level_fits p.level l)) ∙ level_bits p.level l in
-    let e = joined_bits c.cast_unsigned-level.result p.zone p.place c.cast_unsigned-level.type-inv (zone_small p.zone z) (place_small p.place q)
+    let e = joined_bits c.cast_unsigned-level.result p.zone p.place c.cast_unsigned-level.type_inv (zone_small p.zone z) (place_small p.place q)
     ∙ ap (λ u. u * 16777216 + p.zone * 65536 + p.place) b in
     record { value = ap Ok e ∙ sym (made_of_good p l z q); same = ap place_parts e ∙ made_and_parted p l z q }
