@@ -1,5 +1,5 @@
 -- Keys as a script writes them. A key is read by its shape, whatever the kind: a word after an @, a place with slashes, or else a plate.
-use Rattle.std.specs.Prelude.{ℕ, Bool, cond, List, length, ℤ, pos, neg_ℤ, Some, None, Ok, Err, Option, Result, ◌==◌}
+use Rattle.std.specs.Prelude.{ℕ, cond, List, length, ℤ, pos, neg_ℤ, Some, None, Ok, Option, Result, ◌==◌}
 use Rattle.keys.specs.declared.refusal.Refusal.{Refusal}
 use Rattle.keys.specs.PlaceWord.{place_made}
 use Rattle.keys.specs.PlateWord.{plate_made}

@@ -1,5 +1,5 @@
 -- The lines of a script. The first word says what is asked for; the words after it are numbered from 0 here, and `rest` has them.
-use Rattle.std.specs.Prelude.{ℕ, ◌-◌, Bool, cond, ◌||◌, List, length, is_some, Some, None, codes, Option, ◌==◌}
+use Rattle.std.specs.Prelude.{ℕ, ◌-◌, cond, ◌||◌, List, length, is_some, Some, None, codes, Option, ◌==◌}
 use Rattle.std.specs.Str.{bytes_eq}
 use Rattle.commands.specs.Keys.{key_read}
 use Rattle.commands.specs.Numbers.{number_read}

@@ -1,7 +1,7 @@
 -- A script is read line by line; what is left of it is kept, and the number of the line read last.
 use Rattle.std.specs.Prelude.{ℕ, ◌+◌, ◌≤◌, cond, List, length, is_some, Some, None, Option, ◌==◌, nat_lt}
 use Rattle.commands.specs.Lines.{line_read}
-use Rattle.commands.specs.Texts.{before_byte, after_byte}
+use Rattle.commands.specs.Texts.{before_byte}
 use Rattle.commands.specs.declared.command.Command.{Command}
 use Rattle.commands.specs.declared.command.Command.TheVariants.{Unreadable}
 

@@ -6,3 +6,9 @@ pub mod Targets
 pub mod Kept
 pub mod Chain
 pub mod Ranges
+pub mod KeptRanges
+pub mod Records
+pub mod Drawn
+pub mod Arrays
+pub mod Lists
+pub mod Stages

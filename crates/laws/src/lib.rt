@@ -9,6 +9,12 @@ ghost use Rattle.laws.specs.Targets.{StepsWriteTargets};
 ghost use Rattle.laws.specs.Kept.{StepsKeepTheRest};
 ghost use Rattle.laws.specs.Chain.{SplitsSetTheChain};
 ghost use Rattle.laws.specs.Ranges.{StepsInRange};
+ghost use Rattle.laws.specs.KeptRanges.{CallsKeepRange};
+ghost use Rattle.laws.specs.Records.{CallsKeepRecords};
+ghost use Rattle.laws.specs.Drawn.{CallsKeepNumbers};
+ghost use Rattle.laws.specs.Arrays.{CallsKeepArrays};
+ghost use Rattle.laws.specs.Lists.{CallsKeepLists};
+ghost use Rattle.laws.specs.Stages.{CallsKeepStages};
 
 // The row after a call is what the call's accesses make of it.
 pub fn rows_are_made_by_accesses()
@@ -63,4 +69,34 @@ pub fn splits_set_the_chain()
 // With page and slot numbers in range a step writes a place of the book, and only split steps move its chain.
 pub fn steps_stay_in_range()
     ensures { StepsInRange }
+{}
+
+// The table of a closed book is in range, and every call keeps it so: page numbers, slot numbers, and the progress of a split.
+pub fn calls_keep_the_range()
+    ensures { CallsKeepRange }
+{}
+
+// No page record has a committed slot at or above its taken count: so it is in a closed book, and every call keeps it so.
+pub fn calls_keep_records_sound()
+    ensures { CallsKeepRecords }
+{}
+
+// Every enter and every change has a change number of its own, from 1 to the last one drawn: so it is in a closed book, and every call keeps it so.
+pub fn calls_keep_numbers_apart()
+    ensures { CallsKeepNumbers }
+{}
+
+// The table's arrays are whole, so that a record that is written is read back: so it is in a closed book, and every call keeps it so.
+pub fn calls_keep_arrays_whole()
+    ensures { CallsKeepArrays }
+{}
+
+// The pages of an open book are one list in which none comes twice. The old page of a split is in it; the new ones are not, are two, and are held by nobody.
+pub fn calls_keep_the_list()
+    ensures { CallsKeepLists }
+{}
+
+// A runner is pending only on a page in sync or before the link, so nobody is when the new pages are linked; and it compares and reads only there or where the page has left the list.
+pub fn calls_keep_stage_and_phase()
+    ensures { CallsKeepStages }
 {}

@@ -1,10 +1,10 @@
 -- The walks of a rebuild, one page or one slot on.
-use Rattle.std.proofs.Common.{◌≡◌, ℕ, zero, suc, ◌+◌, ◌-◌, ◌<◌, ◌≤◌, Bool, true, false, cond, not, ◌&&◌, ◌||◌, eqb, leb, List, Ok, Err, Result, refl, arith}
+use Rattle.std.proofs.Common.{◌≡◌, ℕ, zero, suc, ◌+◌, ◌-◌, ◌<◌, ◌≤◌, Bool, true, false, cond, not, ◌||◌, eqb, leb, List, Ok, Err, refl, arith}
 use Rattle.protocol.specs.declared.numbers.Refusal.{Refusal}
 use Rattle.protocol.specs.declared.numbers.Refusal.TheVariants.{BrokenChain, MisplacedKey, NoChangeNumber}
 use Rattle.protocol.specs.declared.table.Table.{Table}
 use Rattle.protocol.specs.declared.table.Tally.{Tally}
-use Rattle.protocol.specs.Layout.{word, next_at, low_at, key_at, value_at, page_count}
+use Rattle.protocol.specs.Layout.{word, next_at, key_at, value_at, page_count}
 use Rattle.values.specs.ValueWord.{number_of}
 use Rattle.protocol.specs.Fields.{page_at}
 use Rattle.protocol.specs.Rebuild.{listing, chain_from, low_rises, lows_from, placed, tallied, slots_from, page_surveyed, pages_from}

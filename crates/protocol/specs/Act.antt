@@ -10,7 +10,7 @@ use Rattle.protocol.specs.declared.table.Runner.{Runner}
 use Rattle.protocol.specs.declared.table.Split.{Split}
 use Rattle.protocol.specs.declared.table.Table.{Table}
 use Rattle.protocol.specs.declared.moves.Access.TheVariants.{Load, Store, Swap}
-use Rattle.protocol.specs.declared.moves.RunnerNext.TheVariants.{Go, AnswerLoaded, CompareLoaded, JudgeLoaded, PendLoaded, WeighLoaded, BySwap}
+use Rattle.protocol.specs.declared.moves.RunnerNext.TheVariants.{AnswerLoaded, CompareLoaded, JudgeLoaded, PendLoaded, WeighLoaded, BySwap}
 use Rattle.protocol.specs.declared.moves.Move.{Move}
 use Rattle.protocol.specs.Layout.{key_at, value_at}
 use Rattle.protocol.specs.Fields.{page_at}

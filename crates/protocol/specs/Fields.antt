@@ -1,5 +1,5 @@
 -- The fields of the table: how each is read and written, whatever the number.
-use Rattle.std.specs.Prelude.{ℕ, ◌+◌, ◌/◌, ◌%◌, ◌^◌, Bool, true, false, cond, not, ◌&&◌, ◌||◌, List, Some, None, Option, ◌==◌, bit_or, nat_le, nat_lt, slice_index_or, slice_set}
+use Rattle.std.specs.Prelude.{ℕ, ◌+◌, ◌/◌, ◌%◌, ◌^◌, Bool, false, cond, ◌&&◌, Some, None, Option, ◌==◌, bit_or, nat_le, nat_lt, slice_index_or, slice_set}
 use Rattle.protocol.specs.declared.numbers.Operation.TheVariants.{Enter}
 use Rattle.protocol.specs.declared.table.Stage.{Stage}
 use Rattle.protocol.specs.declared.table.Stage.TheVariants.{Idle, Locating, WritingValue, WritingKey, Committing, Helping, Acting, PendingNew, PendingOld, PendingSwap, PendingRemove, Comparing, ComparingSwap, Reading, Answered}

@@ -1,5 +1,5 @@
 -- A new book.
-use Rattle.std.specs.Prelude.{ℕ, Bool, true, false, cond, List, [], ◌∷◌, set, replicate, None}
+use Rattle.std.specs.Prelude.{ℕ, Bool, true, false, List, [], ◌∷◌, replicate, None}
 use Rattle.memory.specs.Row.{row_stored}
 use Rattle.protocol.specs.declared.table.Table.{Table}
 use Rattle.protocol.specs.Fields.{idle_runner, no_page, with_page}

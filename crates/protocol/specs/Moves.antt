@@ -3,7 +3,6 @@ use Rattle.std.specs.Prelude.{ℕ}
 use Rattle.protocol.specs.declared.numbers.Answer.{Answer}
 use Rattle.protocol.specs.declared.table.Stage.{Stage}
 use Rattle.protocol.specs.declared.table.Stage.TheVariants.{Answered}
-use Rattle.protocol.specs.declared.table.Split.{Split}
 use Rattle.protocol.specs.declared.moves.Access.{Access}
 use Rattle.protocol.specs.declared.moves.Access.TheVariants as access
 use Rattle.protocol.specs.declared.moves.RunnerNext.{RunnerNext}

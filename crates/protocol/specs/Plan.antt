@@ -13,7 +13,7 @@ use Rattle.protocol.specs.declared.moves.RunnerNext.TheVariants.{Go}
 use Rattle.protocol.specs.declared.moves.TableNext.TheVariants.{Commit}
 use Rattle.protocol.specs.declared.moves.Move.{Move}
 use Rattle.protocol.specs.Layout.{key_at, value_at}
-use Rattle.protocol.specs.Fields.{held, standing, runner_at}
+use Rattle.protocol.specs.Fields.{held, standing}
 use Rattle.protocol.specs.Moves.{goes, turns, rests}
 use Rattle.protocol.specs.Locate.{locating}
 use Rattle.protocol.specs.Act.{acting, acting_in_sync, acting_in_link, pending, comparing, comparing_swap, reading}

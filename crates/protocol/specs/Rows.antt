@@ -1,5 +1,5 @@
 -- A page record and the row that it is made from.
-use Rattle.std.specs.Prelude.{ℕ, ◌+◌, ◌^◌, Bool, true, false, cond, ◌&&◌, Some, None, Option, bit_or, nat_lt}
+use Rattle.std.specs.Prelude.{ℕ, ◌+◌, ◌^◌, cond, bit_or, nat_lt}
 use Rattle.protocol.specs.declared.table.PageRow.{PageRow}
 use Rattle.protocol.specs.declared.record.PageRecord.{PageRecord}
 

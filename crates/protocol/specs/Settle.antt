@@ -22,7 +22,7 @@ use Rattle.protocol.specs.Layout.{word}
 use Rattle.values.specs.ValueWord.{mark_of, value_of, same}
 use Rattle.protocol.specs.Fields.{runner_at, with_runner, with_stage, no_page, page_at, with_page, with_first, with_split, row_taken, row_committed, with_progress}
 use Rattle.protocol.specs.Search.{preceding}
-use Rattle.protocol.specs.Split.{slot_after, old_next, left_next}
+use Rattle.protocol.specs.Split.{slot_after, old_next}
 
 -- The row after the access: a store or a swap changes at most its own word.
 abbrev pub performed : List ℕ → Access → List ℕ

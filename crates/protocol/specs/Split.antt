@@ -1,5 +1,5 @@
 -- The steps of a split: copy, sync, link.
-use Rattle.std.specs.Prelude.{ℕ, ◌+◌, ◌-◌, Bool, true, false, cond, not, ◌&&◌, ◌||◌, List, Some, None, Option, ◌==◌, nat_le, nat_lt, slice_set}
+use Rattle.std.specs.Prelude.{ℕ, ◌+◌, ◌-◌, Bool, cond, List, Some, None, Option, ◌==◌, nat_le, nat_lt, slice_set}
 use Rattle.protocol.specs.declared.table.Progress.{Progress}
 use Rattle.protocol.specs.declared.table.Progress.TheVariants.{Clearing, LeftNext, LeftLow, RightNext, RightLow, Copying, CopyingValue, CopyingKey, Syncing, SyncingNew, SyncingSwap, Linking, Finishing}
 use Rattle.protocol.specs.declared.table.Split.{Split}

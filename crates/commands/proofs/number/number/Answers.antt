@@ -1,5 +1,5 @@
-use Rattle.std.proofs.Common.{◌≡◌, ◌+◌, ◌*◌, sym, arith}
-use Rattle.commands.proofs.Numerals.{Left, left_more, left_no_digit, left_too_much, left_all}
+use Rattle.std.proofs.Common.{sym, arith}
+use Rattle.commands.proofs.Numerals.{left_more, left_no_digit, left_too_much, left_all}
 use Rattle.commands.proofs.number.number.Goals as goal
 use Rattle.commands.proofs.number.number.Goals.{then-most-digit-via-then-most-digit, then-most-digit-via-else-most-digit+then-most-digit-2}
 

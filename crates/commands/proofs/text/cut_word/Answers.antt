@@ -1,4 +1,3 @@
-use Rattle.std.proofs.Common.{◌≡◌, rules}
 use Rattle.std.proofs.lemmas.List.{take_rest}
 use Rattle.commands.specs.Texts.{first_word, after_word}
 use Rattle.commands.proofs.text.cut_word.Goals as goal
