@@ -79,7 +79,7 @@ mod tests {
             value: 0,
         };
         assert_eq!(rt; told.write(&mut buffer), Ok(14));
-        assert!(rt; &buffer[..15] == b"3 not there 0\n\x07");
+        assert!(rt; &buffer[..15] == b"3 not there 0\n\x07".as_slice());
     }
 
     #[test]
@@ -91,7 +91,7 @@ mod tests {
             value: 4294967295,
         };
         assert_eq!(rt; told.write(&mut buffer), Ok(27));
-        assert!(rt; &buffer[..28] == b"8 already there 4294967295\n\x07");
+        assert!(rt; &buffer[..28] == b"8 already there 4294967295\n\x07".as_slice());
     }
 
     #[test]

@@ -46,7 +46,7 @@ fn plates_and_their_order(rt: HostRuntime) -> Result<(), Fail> {
     assert_eq!(rt; Plate::make(b"B-7"), Err(Refusal::NoSuchByte));
     match Plate::parts(0x42370000000000) {
         Ok(text) => {
-            assert!(rt; text.bytes() == b"B7");
+            assert!(rt; text.bytes() == b"B7".as_slice());
             Ok(())
         },
         Err(refusal) => {

@@ -1,5 +1,5 @@
 -- What a move must bring so that the table stays in range, and that it then does.
-use Rattle.std.proofs.Common.{◌≡◌, ℕ, ◌-◌, ◌<◌, true, false, not, ◌||◌, eqb, ◌⊎◌, Some, None, Option, sym, refl, ap, ◌∙◌, ⊎_elim, arith}
+use Rattle.std.proofs.Common.{◌≡◌, ℕ, ◌<◌, true, false, not, ◌||◌, eqb, Some, None, Option, sym, refl, ap, ◌∙◌, ⊎_elim, arith}
 use Rattle.std.proofs.lemmas.Bool.{cond_both, eqb-false, both_ways}
 use Rattle.protocol.specs.declared.numbers.Answer.TheVariants.{Done}
 use Rattle.protocol.specs.declared.table.Stage.{Stage}

@@ -1,5 +1,5 @@
 -- Acting, pending, comparing and reading moves keep the range: a new slot that is found is below 8.
-use Rattle.std.proofs.Common.{ℕ, ◌-◌, Bool, List, Some, None, Option}
+use Rattle.std.proofs.Common.{ℕ, Bool, List, Some, None, Option}
 use Rattle.protocol.specs.declared.numbers.Operation.{Operation}
 use Rattle.protocol.specs.declared.numbers.Operation.TheVariants.{Enter, Change, Remove, Look}
 use Rattle.protocol.specs.declared.numbers.Answer.{Answer}

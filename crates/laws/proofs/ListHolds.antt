@@ -1,5 +1,5 @@
 -- What a move must bring so that the page list stays well: a runner comes to hold no new page of the split, and the split's pages stay apart.
-use Rattle.std.proofs.Common.{◌≡◌, ℕ, true, not, ◌&&◌, ◌||◌, ltb, ◌⊎◌, Some, None, Option, sym, refl, ap, ◌∙◌, inl, inr, ⊎_elim}
+use Rattle.std.proofs.Common.{◌≡◌, ℕ, true, not, ◌&&◌, ◌||◌, ltb, ◌⊎◌, Some, sym, refl, ap, ◌∙◌, inl, inr, ⊎_elim}
 use Rattle.std.proofs.lemmas.Bool.{cond_both, both_ways}
 use Rattle.protocol.specs.declared.numbers.Answer.TheVariants.{Done}
 use Rattle.protocol.specs.declared.table.Stage.{Stage}

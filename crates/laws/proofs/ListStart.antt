@@ -1,5 +1,5 @@
 -- Locating and the start of a split: the covering page is listed, and the pages that a split takes are unused, and two.
-use Rattle.std.proofs.Common.{◌≡◌, ℕ, zero, suc, ◌+◌, ◌-◌, ◌*◌, ◌/◌, ◌%◌, ◌<◌, ◌≤◌, Bool, true, false, ltb, leb, ◌≢◌, ◌⊎◌, List, Some, None, Option, sym, refl, ap, ◌∙◌, inl, inr, ⊎_elim, mul-le-mul_left, mul-suc, arith}
+use Rattle.std.proofs.Common.{◌≡◌, ℕ, zero, suc, ◌+◌, ◌-◌, ◌*◌, ◌/◌, ◌%◌, ◌<◌, ◌≤◌, Bool, true, false, ltb, leb, ◌≢◌, List, Some, None, Option, sym, refl, ap, ◌∙◌, inl, inr, ⊎_elim, mul-le-mul_left, mul-suc, arith}
 use native.Mathlib.Nat.{mod-add-div}
 use Rattle.std.proofs.lemmas.Nat.{mod_below}
 use Rattle.std.proofs.lemmas.Bool.{cond_both, and_parts, not-true, both_ways, cases_lt, eq-eqb}
@@ -20,7 +20,7 @@ use Rattle.laws.proofs.FittingLocate.{free_found}
 use Rattle.laws.proofs.FittingSplit.{Above, first_above}
 use Rattle.laws.proofs.ListFinish.{Missed, first_missed}
 use Rattle.laws.proofs.ListHolds.{MoveHolds}
-use Rattle.laws.proofs.KeptRanges.{Found, first_found}
+use Rattle.laws.proofs.KeptRanges.{Found}
 
 -- the covering page is listed
 

@@ -11,7 +11,7 @@ use Rattle.protocol.specs.Make.{bare_table, made_table}
 use Rattle.protocol.specs.Rebuild.{chained}
 use Rattle.protocol.specs.Calls.{draws, started, begun_as}
 use Rattle.laws.specs.Arrays.{WholeArrays}
-use Rattle.laws.specs.Lists.{Unused, WellListed, ListedIfOpen, CallsKeepLists}
+use Rattle.laws.specs.Lists.{WellListed, ListedIfOpen, CallsKeepLists}
 use Rattle.laws.proofs.Arrays.{runner_whole, page_whole, bare_whole, begun_whole, tally_whole, settled_whole}
 use Rattle.laws.proofs.Calls.{FoundSo, begun_keeps, collected_keeps, stepped_keeps, made_keeps, chained_keeps, rebuilt_keeps}
 use Rattle.laws.proofs.Fitting.{none_is_some}

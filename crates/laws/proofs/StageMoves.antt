@@ -1,5 +1,5 @@
 -- The moves of every stage keep stage and phase in agreement.
-use Rattle.std.proofs.Common.{◌≡◌, ℕ, ◌+◌, ◌-◌, Bool, true, false, not, ◌&&◌, eqb, ltb, leb, ◌⊎◌, List, Some, None, Option, refl, ⊎_elim, arith}
+use Rattle.std.proofs.Common.{◌≡◌, ℕ, ◌+◌, Bool, true, false, not, ◌&&◌, eqb, ltb, leb, List, Some, None, Option, refl, ⊎_elim, arith}
 use Rattle.std.proofs.lemmas.Bool.{cond_both, and_from, both_ways, cases_lt}
 use Rattle.std.proofs.lemmas.Bool.Decides.{nat_tests}
 use Rattle.protocol.specs.declared.numbers.Operation.{Operation}

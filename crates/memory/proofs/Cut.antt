@@ -1,5 +1,5 @@
 -- A cut inside a store or a swap touches one word.
-use Rattle.std.proofs.Common.{◌≡◌, ℕ, ◌<◌, cond, eqb, ltb, ◌≢◌, ◌⊎◌, List, length, get_or, set, refl, inl, inr, ⊎_elim}
+use Rattle.std.proofs.Common.{◌≡◌, ℕ, ◌<◌, cond, eqb, ltb, ◌≢◌, List, length, get_or, set, refl, inl, inr, ⊎_elim}
 use Rattle.std.proofs.lemmas.List.{length-set, get_or-set_same, get_or-set_other}
 use Rattle.std.proofs.lemmas.Bool.{ltb-true, cond_both, ne_eqb}
 use Rattle.memory.specs.Row.{row_stored, row_swapped}

@@ -29,8 +29,8 @@ fn store_in_bytes(bytes: &mut [u8], i: usize, w: u64)
 
 // A store through a window of any memory that is lent, and the whole row of that memory after it.
 fn store_in_window<M: KeptMemory>(memory: &mut M, base: usize, size: usize, i: usize, w: u64)
-    ensures after { words memory.new ≡ below_stored (words memory.old) base size i w }
-    ensures same { rest memory.new ≡ rest memory.old }
+    ensures after { M.words memory.new ≡ below_stored (M.words memory.old) base size i w }
+    ensures same { M.rest memory.new ≡ M.rest memory.old }
 {
     let mut window = Window::new(memory, base, size);
     let _ = window.store(i, w);

@@ -1,5 +1,5 @@
 -- What a script gives, line after line, by the definitions of keys, memory and protocol.
-use Rattle.std.specs.Prelude.{◌≡◌, ℕ, zero, suc, ◌+◌, Bool, cond, List, [], ◌∷◌, map, replicate, Some, None, Ok, Err, Option, Result}
+use Rattle.std.specs.Prelude.{◌≡◌, ℕ, zero, suc, ◌+◌, cond, List, [], ◌∷◌, map, replicate, Some, None, Ok, Err, Option, Result}
 use Rattle.memory.specs.declared.kept.Refusal as memory
 use Rattle.memory.specs.Refusals as memory_refusals
 use Rattle.memory.specs.Row.{loaded}

@@ -1,4 +1,4 @@
-use Rattle.std.proofs.Common.{◌≡◌, ◌/◌, drop}
+use Rattle.std.proofs.Common.{◌≡◌, drop}
 use Rattle.protocol.specs.Locate.{ranked}
 use Rattle.locate.proofs.start.parting_key.Given as goal
 
