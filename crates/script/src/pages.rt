@@ -1,4 +1,6 @@
 // The pages of a table's list, in its order.
+ghost use Rattle.std.specs.Iterator.{at_most};
+
 use protocol::fields;
 use protocol::table::Table;
 
@@ -24,9 +26,7 @@ impl<'a> Pages<'a> {
 impl Iterator for Pages<'_> {
     type Item = u8;
 
-    ghost ends = { λ _. Unit {0} };
-
-    ghost remaining = { λ s. s.left };
+    ghost remaining = { λ s. at_most s.left };
 
     fn next(&mut self) -> Option<u8> {
         if self.next == 0 || self.left == 0 {
