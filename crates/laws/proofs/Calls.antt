@@ -21,7 +21,7 @@ use Rattle.protocol.specs.Make.{bare_table, made_table}
 use Rattle.protocol.specs.Rebuild.{size_refusal, listing, chain_from, chained, placed, tallied, slots_from, page_tally, with_tally, with_page_tally, page_surveyed, pages_from, lows_right, surveyed_list, surveyed_unless, surveyed}
 use Rattle.protocol.specs.Numbers.{operation_of}
 use Rattle.protocol.specs.Calls.{Said, made_unless, made, rebuilt_as, rebuilt, runner_refusal, draws, begun_as, begun_drawing, begun_for, begun_unless, begun, stepped_by, stepped_unless, stepped, collected_by, collected_unless, collected}
-use Rattle.laws.specs.KeptRanges.{Page}
+use Rattle.laws.specs.Ranges.{Page}
 
 -- begin: the operation's record, where a number is left to draw if it draws one
 

@@ -10,8 +10,8 @@ use Rattle.protocol.specs.declared.table.Runner.{Runner}
 use Rattle.protocol.specs.declared.table.Split.{Split}
 use Rattle.protocol.specs.Search.{holds, new_page, new_slot}
 use Rattle.protocol.specs.Act.{acting_found, acting_page, syncing_found, syncing_page, clearing_slot, reading_slot, reading, linking_as, pending_new, pending_at, comparing_slot}
-use Rattle.laws.specs.KeptRanges.{SlotFits}
-use Rattle.laws.proofs.KeptRanges.{Found, first_found}
+use Rattle.laws.specs.KeptRanges.{SlotKept}
+use Rattle.laws.proofs.Ranges.{Found, first_found}
 use Rattle.laws.proofs.Fitting.{MoveFits}
 
 acting_found_fits : (n r : ℕ) (x : Runner) (p i : ℕ) (o : Operation) → MoveFits n (acting_found r x p i o)
@@ -59,7 +59,7 @@ pending_new_fits : (n r q p i : ℕ) (f : ℕ → Bool) (o : Option ℕ) → Fou
 pending_new_fits n r q p i f None h = (tt, tt)
 pending_new_fits n r q p i f (Some m) h = (h.0, tt)
 
-pub pending_fits : (before : ℕ → ℕ → Bool) (ws : List ℕ) (n : ℕ) (s : Split) (r : ℕ) (x : Runner) (g : Stage) → SlotFits g → MoveFits n (pending_at before ws s r x g)
+pub pending_fits : (before : ℕ → ℕ → Bool) (ws : List ℕ) (n : ℕ) (s : Split) (r : ℕ) (x : Runner) (g : Stage) → SlotKept g → MoveFits n (pending_at before ws s r x g)
 pending_fits before ws n s r x Idle h = (tt, tt)
 pending_fits before ws n s r x Locating h = (tt, tt)
 pending_fits before ws n s r x (WritingValue p i) h = (tt, tt)

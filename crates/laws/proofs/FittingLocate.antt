@@ -14,8 +14,9 @@ use Rattle.protocol.specs.Layout.{page_count}
 use Rattle.protocol.specs.Fields.{page_at, not_copied, copy_at, standing}
 use Rattle.protocol.specs.Search.{found, covering}
 use Rattle.protocol.specs.Locate.{free_at, free_from, round_page, new_split, into_one, into_second, into_two, live_keys, key_count, split_key, starting, takes, crowded, entering_page, entering, locating_page, locating}
-use Rattle.laws.specs.KeptRanges.{Page, SplitFits}
-use Rattle.laws.proofs.KeptRanges.{Found, first_found}
+use Rattle.laws.specs.Ranges.{Page}
+use Rattle.laws.specs.KeptRanges.{SplitKept}
+use Rattle.laws.proofs.Ranges.{Found, first_found}
 use Rattle.laws.proofs.Fitting.{MoveFits}
 
 round_page_fits : (n p i : ℕ) → i < n → Page n (round_page n p i)
@@ -27,7 +28,7 @@ never_copied p l r k i =
     (λ e. get_or-replicate 8 i not_copied not_copied (ltb-true i 8 e))
     (λ _. refl)
 
-new_split_fits : (n p l r k : ℕ) → Page n l → r ≤ n → SplitFits n (new_split p l r k)
+new_split_fits : (n p l r k : ℕ) → Page n l → r ≤ n → SplitKept n (new_split p l r k)
 new_split_fits n p l r k L h =
     record {
       left = L;

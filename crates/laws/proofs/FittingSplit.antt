@@ -14,13 +14,14 @@ use Rattle.protocol.specs.Search.{first_from, on_right, new_page, live, live_fro
 use Rattle.protocol.specs.Split.{slot_after, clearing_after, new_count, copied, copying, syncing_slot, syncing, linking, split_step_at}
 use Rattle.protocol.specs.Settle.{levelled}
 use Rattle.values.specs.ValueWord.{mark_of, same}
-use Rattle.laws.specs.KeptRanges.{fill, ProgressFits, SplitFits, InRange}
-use Rattle.laws.proofs.KeptRanges.{Found, first_found, new_page_fits, new_count_fits}
+use Rattle.laws.specs.KeptRanges.{fill, ProgressKept, SplitKept, RangeKept}
+use Rattle.laws.proofs.Ranges.{Found, first_found}
+use Rattle.laws.proofs.KeptRanges.{new_page_kept, new_count_kept}
 use Rattle.laws.proofs.Tables.{read_written}
 use Rattle.laws.proofs.Fitting.{MoveFits}
 use Rattle.laws.proofs.FittingAct.{pending_fits}
 
-goes_on : (n : ℕ) (s : Split) (g : Progress) → SplitFits n s → ProgressFits (with_progress s g) g → SplitFits n (with_progress s g)
+goes_on : (n : ℕ) (s : Split) (g : Progress) → SplitKept n s → ProgressKept (with_progress s g) g → SplitKept n (with_progress s g)
 goes_on n s g F h = record { left = F.left; right = F.right; copies = F.copies; progress = h }
 
 abbrev pub Above : ℕ → Option ℕ → Type 0
@@ -37,19 +38,19 @@ first_above f i zero = tt
 first_above f i (suc n) =
     cond_both (f i) (Some i) (first_from f (i + 1) n) (Above i) (λ _. omega arith) (λ _. weaker i (first_from f (i + 1) n) (first_above f (i + 1) n))
 
-clearing_after_fits : (s : Split) (m : ℕ) → m < cond (eqb s.right 0) 8 16 → fill s ≤ 0 → ProgressFits (with_progress s (clearing_after s m)) (clearing_after s m)
+clearing_after_fits : (s : Split) (m : ℕ) → m < cond (eqb s.right 0) 8 16 → fill s ≤ 0 → ProgressKept (with_progress s (clearing_after s m)) (clearing_after s m)
 clearing_after_fits s m h f =
-    cond_both (leb (cond (eqb s.right 0) 7 15) m) LeftNext (Clearing (m + 1)) (λ g. ProgressFits (with_progress s g) g)
+    cond_both (leb (cond (eqb s.right 0) 7 15) m) LeftNext (Clearing (m + 1)) (λ g. ProgressKept (with_progress s g) g)
     (λ _. f)
     (λ e. (grind (arith, nat_tests), f))
 
-left_low_fits : (s : Split) → fill s ≤ 0 → ProgressFits (with_progress s (cond (eqb s.right 0) (Copying 0) RightNext)) (cond (eqb s.right 0) (Copying 0) RightNext)
+left_low_fits : (s : Split) → fill s ≤ 0 → ProgressKept (with_progress s (cond (eqb s.right 0) (Copying 0) RightNext)) (cond (eqb s.right 0) (Copying 0) RightNext)
 left_low_fits s f =
-    cond_both (eqb s.right 0) (Copying 0) RightNext (λ g. ProgressFits (with_progress s g) g)
+    cond_both (eqb s.right 0) (Copying 0) RightNext (λ g. ProgressKept (with_progress s g) g)
     (λ _. f)
     (λ e. let z = eqb-false s.right 0 e in (omega arith, f))
 
-copying_fits : (ws : List ℕ) (n r : ℕ) (s : Split) (i : ℕ) (f : ℕ → Bool) (o : Option ℕ) → SplitFits n s → fill s ≤ i → Found f (i + (8 - i)) o → Above i o →
+copying_fits : (ws : List ℕ) (n r : ℕ) (s : Split) (i : ℕ) (f : ℕ → Bool) (o : Option ℕ) → SplitKept n s → fill s ≤ i → Found f (i + (8 - i)) o → Above i o →
     MoveFits n (copying ws r s o)
 copying_fits ws n r s i f None F h g a = (tt, goes_on n s (Syncing 0) F tt)
 copying_fits ws n r s i f (Some j) F h g a = (tt, λ w. goes_on n s (CopyingValue j _ w) F (omega arith, omega (arith, g.0)))
@@ -64,7 +65,7 @@ one_more : (b : Bool) (l r : ℕ) → cond b l (slot_after l) + cond b (slot_aft
 one_more true l r = let h = slot_after_below r in omega arith
 one_more false l r = let h = slot_after_below l in omega arith
 
-copied_fits : (before : ℕ → ℕ → Bool) (n : ℕ) (s : Split) (i k : ℕ) → SplitFits n s → fill s ≤ i → i < 8 → SplitFits n (copied before s i k)
+copied_fits : (before : ℕ → ℕ → Bool) (n : ℕ) (s : Split) (i k : ℕ) → SplitKept n s → fill s ≤ i → i < 8 → SplitKept n (copied before s i k)
 copied_fits before n s i k F h l =
     let x : NewSlot = record { page = new_page before s k; slot = new_count before s k } in
     record {
@@ -73,32 +74,32 @@ copied_fits before n s i k F h l =
       copies = λ j ne.
           ⊎_elim
           (λ e. rw e (F.copies j (rw e at ne)))
-          (λ e. rw e.1 (new_page_fits before n s k F, new_count_fits before s k i h l))
+          (λ e. rw e.1 (new_page_kept before n s k F, new_count_kept before s k i h l))
           (read_written not_copied (ltb j 8) (ltb i 8) s.copies i j x);
       progress = let a = one_more (on_right before s k) s.lefts s.rights in let b = slot_after_next i l in omega arith;
     }
 
-syncing_slot_fits : (ws : List ℕ) (n r : ℕ) (s : Split) (i : ℕ) → SplitFits n s → (copy_at s i).page ≢ 0 → MoveFits n (syncing_slot ws r s i)
+syncing_slot_fits : (ws : List ℕ) (n r : ℕ) (s : Split) (i : ℕ) → SplitKept n s → (copy_at s i).page ≢ 0 → MoveFits n (syncing_slot ws r s i)
 syncing_slot_fits ws n r s i F h =
     cond_both (eqb (word ws (key_at s.old i)) 0) _ _ (MoveFits n)
     (λ _. (tt, goes_on n s (Syncing (slot_after i)) F tt))
     (λ _. (tt, λ o. goes_on n s (SyncingNew i o) F h))
 
-syncing_fits : (ws : List ℕ) (n r : ℕ) (s : Split) (m : ℕ) (o : Option ℕ) → SplitFits n s → Found (stands ws s) m o → MoveFits n (syncing ws r s o)
+syncing_fits : (ws : List ℕ) (n r : ℕ) (s : Split) (m : ℕ) (o : Option ℕ) → SplitKept n s → Found (stands ws s) m o → MoveFits n (syncing ws r s o)
 syncing_fits ws n r s m None F g = (tt, goes_on n s Linking F tt)
 syncing_fits ws n r s m (Some i) F g =
     syncing_slot_fits ws n r s i F (eqb-false (copy_at s i).page 0 (not-true (eqb (copy_at s i).page 0) (and_parts _ _ g.1).0))
 
-levelled_fits : (n : ℕ) (s : Split) (i o w : ℕ) → SplitFits n s → (copy_at s i).page ≢ 0 → SplitFits n (with_progress s (levelled i o w))
+levelled_fits : (n : ℕ) (s : Split) (i o w : ℕ) → SplitKept n s → (copy_at s i).page ≢ 0 → SplitKept n (with_progress s (levelled i o w))
 levelled_fits n s i o w F h =
     goes_on n s (levelled i o w) F
-    (cond_both (mark_of w && not (same w o)) (SyncingSwap i o w) (Syncing (slot_after i)) (λ g. ProgressFits (with_progress s g) g) (λ _. h) (λ _. tt))
+    (cond_both (mark_of w && not (same w o)) (SyncingSwap i o w) (Syncing (slot_after i)) (λ g. ProgressKept (with_progress s g) g) (λ _. h) (λ _. tt))
 
-linking_fits : (before : ℕ → ℕ → Bool) (ws : List ℕ) (t : Table) (n : ℕ) (s : Split) (m : Move) (o : Option ℕ) → InRange n t → MoveFits n m → MoveFits n (linking before ws t s m o)
+linking_fits : (before : ℕ → ℕ → Bool) (ws : List ℕ) (t : Table) (n : ℕ) (s : Split) (m : Move) (o : Option ℕ) → RangeKept n t → MoveFits n m → MoveFits n (linking before ws t s m o)
 linking_fits before ws t n s m (Some q) R h = pending_fits before ws n s q (runner_at t q) (runner_at t q).stage (R.runners q)
 linking_fits before ws t n s m None R h = h
 
-pub split_step_fits : (before : ℕ → ℕ → Bool) (ws : List ℕ) (t : Table) (n r : ℕ) (s : Split) (g : Progress) → InRange n t → SplitFits n s → ProgressFits s g →
+pub split_step_fits : (before : ℕ → ℕ → Bool) (ws : List ℕ) (t : Table) (n r : ℕ) (s : Split) (g : Progress) → RangeKept n t → SplitKept n s → ProgressKept s g →
     MoveFits n (split_step_at before ws t r s g)
 split_step_fits before ws t n r s (Clearing m) R F h = (tt, goes_on n s (clearing_after s m) F (clearing_after_fits s m h.0 h.1))
 split_step_fits before ws t n r s LeftNext R F h = (tt, goes_on n s LeftLow F h)

@@ -18,8 +18,10 @@ use Rattle.protocol.specs.Plan.{helping, writing, acting_in, pending_in, compari
 use Rattle.protocol.specs.Make.{bare_table, made_table}
 use Rattle.protocol.specs.Rebuild.{listing, with_tally}
 use Rattle.protocol.specs.Calls.{draws, begun_as}
-use Rattle.laws.specs.KeptRanges.{Page, SlotFits, SplitFits, InRange, CallsKeepRange}
+use Rattle.laws.specs.Ranges.{Page}
+use Rattle.laws.specs.KeptRanges.{SlotKept, SplitKept, RangeKept, CallsKeepRange}
 use Rattle.laws.proofs.Calls.{table_stepped, begun_keeps, collected_keeps, stepped_keeps, made_keeps, chained_keeps, rebuilt_keeps}
+use Rattle.laws.proofs.KeptRanges.{range_serves}
 use Rattle.laws.proofs.Tables.{bare_runner, bare_page}
 use Rattle.laws.proofs.Fitting.{listed_kept, page_kept, runners_kept, runner_kept, none_is_some, MoveFits, move_kept}
 use Rattle.laws.proofs.FittingLocate.{locating_fits}
@@ -28,8 +30,8 @@ use Rattle.laws.proofs.FittingSplit.{split_step_fits}
 
 -- the step
 
-helping_fits : (before : ℕ → ℕ → Bool) (ws : List ℕ) (t : Table) (r : ℕ) (x : Runner) (o : Option Split) → InRange (page_count ws) t →
-    ((s : Split) → o ≡ Some s → SplitFits (page_count ws) s) → MoveFits (page_count ws) (helping before ws t r x o)
+helping_fits : (before : ℕ → ℕ → Bool) (ws : List ℕ) (t : Table) (r : ℕ) (x : Runner) (o : Option Split) → RangeKept (page_count ws) t →
+    ((s : Split) → o ≡ Some s → SplitKept (page_count ws) s) → MoveFits (page_count ws) (helping before ws t r x o)
 helping_fits before ws t r x (Some s) R h = split_step_fits before ws t (page_count ws) r s s.progress R (h s refl) (h s refl).progress
 helping_fits before ws t r x None R h = locating_fits before ws t r x
 
@@ -48,7 +50,7 @@ module _ (before : ℕ → ℕ → Bool) (ws : List ℕ) (t : Table) (r : ℕ) (
   acting_in_fits p (InLink s) = linking_as_fits before ws (page_count ws) s r x x.operation
   acting_in_fits p Left = locating_fits before ws t r x
 
-  pending_in_fits : (u : Standing) → SlotFits x.stage → MoveFits (page_count ws) (pending_in before ws t r x u)
+  pending_in_fits : (u : Standing) → SlotKept x.stage → MoveFits (page_count ws) (pending_in before ws t r x u)
   pending_in_fits Whole h = locating_fits before ws t r x
   pending_in_fits InCopy h = locating_fits before ws t r x
   pending_in_fits (InSync s) h = pending_fits before ws (page_count ws) s r x x.stage h
@@ -77,7 +79,7 @@ module _ (before : ℕ → ℕ → Bool) (ws : List ℕ) (t : Table) (r : ℕ) (
   reading_in_fits (InLink s) = reading_fits before ws (page_count ws) s r x
   reading_in_fits Left = locating_fits before ws t r x
 
-  planned_fits : (g : Stage) (u : Standing) → InRange (page_count ws) t → SlotFits x.stage → SlotFits g → MoveFits (page_count ws) (planned_at before ws t r x g u)
+  planned_fits : (g : Stage) (u : Standing) → RangeKept (page_count ws) t → SlotKept x.stage → SlotKept g → MoveFits (page_count ws) (planned_at before ws t r x g u)
   planned_fits Idle u R k h = (tt, tt)
   planned_fits Locating u R k h = locating_fits before ws t r x
   planned_fits (WritingValue p i) u R k h = writing_fits (page_count ws) r _ u (h, tt)
@@ -94,20 +96,20 @@ module _ (before : ℕ → ℕ → Bool) (ws : List ℕ) (t : Table) (r : ℕ) (
   planned_fits (Reading p) u R k h = reading_in_fits u
   planned_fits (Answered a v) u R k h = (tt, tt)
 
-step_kept : (before : ℕ → ℕ → Bool) (ws : List ℕ) (t : Table) (i : ℕ) → InRange (page_count ws) t → InRange (page_count ws) (table_stepped before ws t i)
+step_kept : (before : ℕ → ℕ → Bool) (ws : List ℕ) (t : Table) (i : ℕ) → RangeKept (page_count ws) t → RangeKept (page_count ws) (table_stepped before ws t i)
 step_kept before ws t i R =
     move_kept (page_count ws) t (planned before ws t i (runner_at t i)) _ R
     (planned_fits before ws t i (runner_at t i) (runner_at t i).stage (standing t (held (runner_at t i).stage)) R (R.runners i) (R.runners i))
 
 -- the other calls
 
-begun_kept : (n : ℕ) (t : Table) (i : ℕ) (o : Operation) (k v : ℕ) → InRange n t → InRange n (begun_as t i o k v)
+begun_kept : (n : ℕ) (t : Table) (i : ℕ) (o : Operation) (k v : ℕ) → RangeKept n t → RangeKept n (begun_as t i o k v)
 begun_kept n t i o k v R =
-    cond_both (draws o) _ _ (InRange n)
+    cond_both (draws o) _ _ (RangeKept n)
     (λ _. record { listed = R.listed; runners = runners_kept t i _ R.runners tt; split = R.split })
     (λ _. record { listed = R.listed; runners = runners_kept t i _ R.runners tt; split = R.split })
 
-bare_kept : (n : ℕ) (b : Bool) (c f : ℕ) → InRange n (bare_table b c f)
+bare_kept : (n : ℕ) (b : Bool) (c f : ℕ) → RangeKept n (bare_table b c f)
 bare_kept n b c f =
     record {
       listed = λ p e. absurd (both_ways false refl (sym (ap (λ x. x.listed) (bare_page b c f p)) ∙ e));
@@ -115,10 +117,10 @@ bare_kept n b c f =
       split = λ s e. none_is_some e;
     }
 
-listing_kept : (n : ℕ) (t : Table) (p q : ℕ) → Page n p → InRange n t → InRange n (listing t p q)
+listing_kept : (n : ℕ) (t : Table) (p q : ℕ) → Page n p → RangeKept n t → RangeKept n (listing t p q)
 listing_kept n t p q h R = page_kept n t p (record { listed = true; next = q; taken = 0; committed = 0 }) R (λ _. h)
 
-tally_kept : (n : ℕ) (t : Table) (p : ℕ) (a : Tally) → InRange n t → InRange n (with_tally t p a)
+tally_kept : (n : ℕ) (t : Table) (p : ℕ) (a : Tally) → RangeKept n t → RangeKept n (with_tally t p a)
 tally_kept n t p a R =
     record {
       listed = listed_kept n t p (record { listed = (page_at t p).listed; next = (page_at t p).next; taken = a.taken; committed = a.committed }) R.listed (λ e. R.listed p e);
@@ -130,18 +132,19 @@ tally_kept n t p a R =
 some_page : (ws : List ℕ) → right_length ws ≡ true → 1 ≤ page_count ws
 some_page ws e = let h = and_parts _ _ (and_parts _ _ e).0 in let l = leb-true 37 (length ws) h.0 in omega arith
 
-made_kept : (ws : List ℕ) (r : ℕ) → right_length ws ≡ true → InRange (page_count ws) (made_table r)
+made_kept : (ws : List ℕ) (r : ℕ) → right_length ws ≡ true → RangeKept (page_count ws) (made_table r)
 made_kept ws r h = listing_kept (page_count ws) (bare_table true r 1) 1 0 (omega arith, some_page ws h) (bare_kept (page_count ws) true r 1)
 
 pub calls_keep_range : CallsKeepRange
 calls_keep_range =
     record {
       closed = λ n. bare_kept n false 0 0;
-      make = λ ws t r R. made_keeps (InRange (page_count ws)) ws t r R (made_kept ws r);
+      make = λ ws t r R. made_keeps (RangeKept (page_count ws)) ws t r R (made_kept ws r);
       rebuild = λ key before ws t r R.
           let n = page_count ws in
-          rebuilt_keeps (InRange n) (InRange n) ws (λ u p a f. tally_kept n u p a) (λ u h. h) key before t r (chained_keeps (InRange n) ws (bare_kept n true) (listing_kept n) r) R;
-      begin = λ key n t r o k v R. begun_keeps (InRange n) key t r o k v R (λ m e. begun_kept n t (r - 1) m k v R);
-      step = λ before ws t r R. stepped_keeps (InRange (page_count ws)) before ws t r R (λ _. step_kept before ws t (r - 1) R);
-      collect = λ n t r R. collected_keeps (InRange n) t r R (runner_kept n t (r - 1) idle_runner R tt);
+          rebuilt_keeps (RangeKept n) (RangeKept n) ws (λ u p a f. tally_kept n u p a) (λ u h. h) key before t r (chained_keeps (RangeKept n) ws (bare_kept n true) (listing_kept n) r) R;
+      begin = λ key n t r o k v R. begun_keeps (RangeKept n) key t r o k v R (λ m e. begun_kept n t (r - 1) m k v R);
+      step = λ before ws t r R. stepped_keeps (RangeKept (page_count ws)) before ws t r R (λ _. step_kept before ws t (r - 1) R);
+      collect = λ n t r R. collected_keeps (RangeKept n) t r R (runner_kept n t (r - 1) idle_runner R tt);
+      serves = range_serves;
     }

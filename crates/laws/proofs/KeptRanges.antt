@@ -1,266 +1,66 @@
--- Places of the book, from numbers in range.
-use Rattle.std.proofs.Common.{◌≡◌, ℕ, zero, suc, ◌+◌, ◌-◌, ◌<◌, ◌≤◌, Bool, true, false, eqb, ltb, List, Some, None, Option, refl, ap, arith}
-use Rattle.std.proofs.lemmas.Bool.{cond_both, and_parts, not-true, eqb-false, both_ways, ltb-true}
-use Rattle.std.proofs.lemmas.Bool.Decides.{nat_tests}
-use Rattle.protocol.specs.declared.numbers.Operation.{Operation}
-use Rattle.protocol.specs.declared.numbers.Operation.TheVariants.{Enter, Change, Remove, Look}
-use Rattle.protocol.specs.declared.numbers.Refusal.{Refusal}
+-- A table in range as every call keeps it is in range as a step needs it.
+use Rattle.std.proofs.Common.{ℕ, ◌<◌, ◌≤◌, Bool, arith}
+use Rattle.std.proofs.lemmas.Bool.{cond_both}
 use Rattle.protocol.specs.declared.table.Stage.{Stage}
 use Rattle.protocol.specs.declared.table.Stage.TheVariants.{Idle, Locating, WritingValue, WritingKey, Committing, Helping, Acting, PendingNew, PendingOld, PendingSwap, PendingRemove, Comparing, ComparingSwap, Reading, Answered}
-use Rattle.protocol.specs.declared.table.Activity.{Activity}
-use Rattle.protocol.specs.declared.table.Activity.TheVariants.{Resting, Open, Waiting}
-use Rattle.protocol.specs.declared.table.Phase.{Phase}
-use Rattle.protocol.specs.declared.table.Phase.TheVariants.{Copy, Sync, Link}
-use Rattle.protocol.specs.declared.table.Runner.{Runner}
 use Rattle.protocol.specs.declared.table.Progress.{Progress}
 use Rattle.protocol.specs.declared.table.Progress.TheVariants.{Clearing, LeftNext, LeftLow, RightNext, RightLow, Copying, CopyingValue, CopyingKey, Syncing, SyncingNew, SyncingSwap, Linking, Finishing}
 use Rattle.protocol.specs.declared.table.Split.{Split}
-use Rattle.protocol.specs.declared.table.Standing.{Standing}
-use Rattle.protocol.specs.declared.table.Standing.TheVariants.{Whole, InCopy, InSync, InLink, Left}
 use Rattle.protocol.specs.declared.table.Table.{Table}
-use Rattle.protocol.specs.Layout.{word, key_at}
-use Rattle.protocol.specs.Fields.{runner_at, page_at, copy_at, held, phase, in_phase, standing_in, standing, activity}
-use Rattle.protocol.specs.Search.{first_from, holds, on_right, new_page, new_slot, stands, first_pending, precedes, preceding}
+use Rattle.protocol.specs.Fields.{runner_at}
+use Rattle.protocol.specs.Search.{on_right, new_page}
 use Rattle.protocol.specs.Split.{new_count}
-use Rattle.protocol.specs.Calls.{runner_refusal, stepped}
-use Rattle.laws.specs.Places.{Place, Key, Value, place_at, Within}
-use Rattle.laws.specs.Targets.{writing_target, found_target, clearing_target, acting_target, syncing_target, acting_target_in, pending_target_at, pending_target_in, comparing_target_in, levelling_target, link_place, linking_target, split_target, helping_target, target_at, step_target_by, step_target_unless, step_target}
-use Rattle.laws.specs.Chain.{on_chain, HelpsSetChain}
-use Rattle.laws.specs.KeptRanges.{Page, SlotFits, fill, ProgressFits, SplitFits, InRange, Fits, StepsInRange}
-use Rattle.laws.proofs.Chain.{splits_set_the_chain}
-use Rattle.laws.proofs.Kept.{steps_keep_the_rest}
+use Rattle.laws.specs.Ranges.{Page, SlotFits, ProgressFits, SplitFits, InRange}
+use Rattle.laws.specs.KeptRanges.{SlotKept, fill, ProgressKept, SplitKept, RangeKept}
+use Rattle.laws.proofs.Ranges.{new_page_fits}
 
--- what is found passes the test and is one of its numbers
+slot_serves : (g : Stage) → SlotKept g → SlotFits g
+slot_serves Idle h = tt
+slot_serves Locating h = tt
+slot_serves (WritingValue p i) h = h
+slot_serves (WritingKey p i) h = h
+slot_serves (Committing p i) h = tt
+slot_serves Helping h = tt
+slot_serves (Acting p) h = tt
+slot_serves (PendingNew p i) h = tt
+slot_serves (PendingOld p i n w) h = tt
+slot_serves (PendingSwap p i n w o) h = h
+slot_serves (PendingRemove p) h = tt
+slot_serves (Comparing p o) h = tt
+slot_serves (ComparingSwap p n w o) h = h
+slot_serves (Reading p) h = tt
+slot_serves (Answered a v) h = tt
 
-abbrev pub Found : (ℕ → Bool) → ℕ → Option ℕ → Type 0
-Found f m None = Unit {0}
-Found f m (Some i) = (i < m) × (f i ≡ true)
+progress_serves : (s : Split) (g : Progress) → ProgressKept s g → ProgressFits s g
+progress_serves s (Clearing n) h = h.0
+progress_serves s LeftNext h = tt
+progress_serves s LeftLow h = tt
+progress_serves s RightNext h = h.0
+progress_serves s RightLow h = h.0
+progress_serves s (Copying i) h = tt
+progress_serves s (CopyingValue i k w) h = let l = h.0 in let m = h.1 in (omega arith, omega arith)
+progress_serves s (CopyingKey i k) h = let l = h.0 in let m = h.1 in (omega arith, omega arith)
+progress_serves s (Syncing i) h = tt
+progress_serves s (SyncingNew i o) h = tt
+progress_serves s (SyncingSwap i o w) h = h
+progress_serves s Linking h = tt
+progress_serves s Finishing h = tt
 
-pub first_found : (f : ℕ → Bool) (i n : ℕ) → Found f (i + n) (first_from f i n)
-unfolding first_from
-first_found f i zero = tt
-first_found f i (suc n) =
-    cond_both (f i) (Some i) (first_from f (i + 1) n) (Found f (i + suc n))
-    (λ e. (omega arith, e))
-    (λ _. let h : i + 1 + n ≡ i + suc n = omega arith in rw h at (first_found f (i + 1) n))
+split_serves : (n : ℕ) (s : Split) → SplitKept n s → SplitFits n s
+split_serves n s F = record { left = F.left; right = F.right; copies = F.copies; progress = progress_serves s s.progress F.progress }
 
--- standings
-
-abbrev StandingFits : ℕ → ℕ → Standing → Type 0
-StandingFits n p Whole = Page n p
-StandingFits n p InCopy = Page n p
-StandingFits n p (InSync s) = Page n p × SplitFits n s
-StandingFits n p (InLink s) = Page n p × SplitFits n s
-StandingFits n p Left = Unit {0}
-
-in_phase_fits : (n p : ℕ) (s : Split) (f : Phase) → Page n p → SplitFits n s → StandingFits n p (in_phase s f)
-in_phase_fits n p s Copy h k = h
-in_phase_fits n p s Sync h k = (h, k)
-in_phase_fits n p s Link h k = (h, k)
-
-standing_in_fits : (n p : ℕ) (o : Option Split) → Page n p → ((s : Split) → o ≡ Some s → SplitFits n s) → StandingFits n p (standing_in o p)
-standing_in_fits n p None h k = h
-standing_in_fits n p (Some s) h k =
-    cond_both (eqb s.old p) (in_phase s (phase s.progress)) Whole (StandingFits n p)
-    (λ _. in_phase_fits n p s (phase s.progress) h (k s refl))
-    (λ _. h)
-
-standing_fits : (n : ℕ) (t : Table) (p : ℕ) → InRange n t → StandingFits n p (standing t p)
-standing_fits n t p R =
-    cond_both (page_at t p).listed (standing_in t.split p) Left (StandingFits n p)
-    (λ e. standing_in_fits n p t.split (R.listed p e) R.split)
-    (λ _. tt)
-
--- the new page of a key
-
-pub new_page_fits : (before : ℕ → ℕ → Bool) (n : ℕ) (s : Split) (k : ℕ) → SplitFits n s → Page n (new_page before s k)
-new_page_fits before n s k F =
-    cond_both (on_right before s k) s.right s.left (Page n)
-    (λ e. let z = eqb-false s.right 0 (not-true (eqb s.right 0) (and_parts _ _ e).0) in (omega arith, F.right))
-    (λ _. F.left)
-
-clearing_fits : (n q : ℕ) (f : ℕ → Bool) (o : Option ℕ) → Page n q → Found f 8 o → Fits n (clearing_target q o)
-clearing_fits n q f None h g = tt
-clearing_fits n q f (Some i) h g = (h.0, h.1, g.0)
-
-new_key_fits : (before : ℕ → ℕ → Bool) (ws : List ℕ) (n : ℕ) (s : Split) (k : ℕ) → SplitFits n s → Fits n (clearing_target (new_page before s k) (new_slot before ws s k))
-new_key_fits before ws n s k F =
-    clearing_fits n (new_page before s k) (holds ws 255 (new_page before s k) k) (new_slot before ws s k) (new_page_fits before n s k F) (first_found (holds ws 255 (new_page before s k) k) 0 8)
-
--- the stages' own words
-
-writing_fits : (n p : ℕ) (a : Place) (u : Standing) → (Page n p → Within n a) → StandingFits n p u → Fits n (writing_target a u)
-writing_fits n p a Whole h f = h f
-writing_fits n p a InCopy h f = tt
-writing_fits n p a (InSync s) h f = tt
-writing_fits n p a (InLink s) h f = tt
-writing_fits n p a Left h f = tt
-
-found_fits : (n p i : ℕ) (o : Operation) → Page n p → i < 8 → Fits n (found_target p i o)
-found_fits n p i Enter h k = tt
-found_fits n p i Change h k = (h.0, h.1, k)
-found_fits n p i Remove h k = (h.0, h.1, k)
-found_fits n p i Look h k = tt
-
-acting_fits : (n : ℕ) (x : Runner) (p : ℕ) (f : ℕ → Bool) (o : Option ℕ) → Page n p → Found f 8 o → Fits n (acting_target x p o)
-acting_fits n x p f None h g = tt
-acting_fits n x p f (Some i) h g = found_fits n p i x.operation h g.0
-
-syncing_fits : (before : ℕ → ℕ → Bool) (ws : List ℕ) (n : ℕ) (s : Split) (x : Runner) (p : ℕ) (f : ℕ → Bool) (o : Option ℕ) → Page n p → SplitFits n s → Found f 8 o →
-    Fits n (syncing_target before ws s x p o)
-syncing_fits before ws n s x p f None h F g = new_key_fits before ws n s x.key F
-syncing_fits before ws n s x p f (Some i) h F g = found_fits n p i x.operation h g.0
-
-acting_in_fits : (before : ℕ → ℕ → Bool) (ws : List ℕ) (t : Table) (n : ℕ) (x : Runner) (p : ℕ) (u : Standing) → StandingFits n p u →
-    Fits n (acting_target_in before ws t x p u)
-acting_in_fits before ws t n x p Whole h = acting_fits n x p _ _ h (first_found (holds ws (page_at t p).committed p x.key) 0 8)
-acting_in_fits before ws t n x p InCopy h = acting_fits n x p _ _ h (first_found (holds ws (page_at t p).committed p x.key) 0 8)
-acting_in_fits before ws t n x p (InSync s) h = syncing_fits before ws n s x p _ _ h.0 h.1 (first_found (holds ws (page_at t p).committed p x.key) 0 8)
-acting_in_fits before ws t n x p (InLink s) h = tt
-acting_in_fits before ws t n x p Left h = tt
-
-pending_fits : (before : ℕ → ℕ → Bool) (ws : List ℕ) (n : ℕ) (s : Split) (k : ℕ) (g : Stage) → SplitFits n s → SlotFits g → Fits n (pending_target_at before ws s k g)
-pending_fits before ws n s k Idle F h = tt
-pending_fits before ws n s k Locating F h = tt
-pending_fits before ws n s k (WritingValue p i) F h = tt
-pending_fits before ws n s k (WritingKey p i) F h = tt
-pending_fits before ws n s k (Committing p i) F h = tt
-pending_fits before ws n s k Helping F h = tt
-pending_fits before ws n s k (Acting p) F h = tt
-pending_fits before ws n s k (PendingNew p i) F h = tt
-pending_fits before ws n s k (PendingOld p i m w) F h = tt
-pending_fits before ws n s k (PendingSwap p i m w o) F h = let q = new_page_fits before n s k F in (q.0, q.1, h)
-pending_fits before ws n s k (PendingRemove p) F h = new_key_fits before ws n s k F
-pending_fits before ws n s k (Comparing p o) F h = tt
-pending_fits before ws n s k (ComparingSwap p m w o) F h = tt
-pending_fits before ws n s k (Reading p) F h = tt
-pending_fits before ws n s k (Answered a v) F h = tt
-
-pending_in_fits : (before : ℕ → ℕ → Bool) (ws : List ℕ) (n p : ℕ) (x : Runner) (u : Standing) → StandingFits n p u → SlotFits x.stage →
-    Fits n (pending_target_in before ws x u)
-pending_in_fits before ws n p x Whole f h = tt
-pending_in_fits before ws n p x InCopy f h = tt
-pending_in_fits before ws n p x (InSync s) f h = pending_fits before ws n s x.key x.stage f.1 h
-pending_in_fits before ws n p x (InLink s) f h = pending_fits before ws n s x.key x.stage f.1 h
-pending_in_fits before ws n p x Left f h = tt
-
-comparing_fits : (before : ℕ → ℕ → Bool) (n p k m : ℕ) (u : Standing) → StandingFits n p u → m < 8 → Fits n (comparing_target_in before k m u)
-comparing_fits before n p k m Whole f h = tt
-comparing_fits before n p k m InCopy f h = tt
-comparing_fits before n p k m (InSync s) f h = let q = new_page_fits before n s k f.1 in (q.0, q.1, h)
-comparing_fits before n p k m (InLink s) f h = tt
-comparing_fits before n p k m Left f h = tt
-
--- split steps
-
-levelling_fits : (ws : List ℕ) (n : ℕ) (s : Split) (m : ℕ) (o : Option ℕ) → SplitFits n s → Found (stands ws s) m o → Fits n (levelling_target ws s o)
-levelling_fits ws n s m None F g = tt
-levelling_fits ws n s m (Some i) F g =
-    let c = F.copies i (eqb-false (copy_at s i).page 0 (not-true (eqb (copy_at s i).page 0) (and_parts _ _ g.1).0)) in
-    cond_both (eqb (word ws (key_at s.old i)) 0) (Some (Key (copy_at s i).page (copy_at s i).slot)) None (Fits n)
-    (λ _. (c.0.0, c.0.1, c.1))
-    (λ _. tt)
-
-link_fits : (n : ℕ) (t : Table) (p m : ℕ) (o : Option ℕ) → InRange n t → Found (precedes t p) m o → Within n (link_place o)
-link_fits n t p m None R g = tt
-link_fits n t p m (Some q) R g = R.listed q (and_parts _ _ g.1).0
-
-linking_fits : (before : ℕ → ℕ → Bool) (ws : List ℕ) (t : Table) (n : ℕ) (s : Split) (a : Option Place) (o : Option ℕ) → InRange n t → SplitFits n s → Fits n a →
-    Fits n (linking_target before ws t s a o)
-linking_fits before ws t n s a (Some q) R F h = pending_fits before ws n s (runner_at t q).key (runner_at t q).stage F (R.runners q)
-linking_fits before ws t n s a None R F h = h
-
-pub new_count_fits : (before : ℕ → ℕ → Bool) (s : Split) (k i : ℕ) → fill s ≤ i → i < 8 → new_count before s k < 8
-new_count_fits before s k i l h = cond_both (on_right before s k) s.rights s.lefts (λ m. m < 8) (λ _. omega arith) (λ _. omega arith)
-
-split_fits : (before : ℕ → ℕ → Bool) (ws : List ℕ) (t : Table) (n : ℕ) (s : Split) (g : Progress) → InRange n t → SplitFits n s → ProgressFits s g →
-    Fits n (split_target before ws t s g)
-split_fits before ws t n s (Clearing m) R F h =
-    cond_both (ltb m 8) (Some (Key s.left m)) (Some (Key s.right (m - 8))) (Fits n)
-    (λ e. (F.left.0, F.left.1, ltb-true m 8 e))
-    (λ e. let m<size = h.0 in (grind (arith, nat_tests), F.right, grind (arith, nat_tests)))
-split_fits before ws t n s LeftNext R F h = F.left
-split_fits before ws t n s LeftLow R F h = F.left
-split_fits before ws t n s RightNext R F h = (h.0, F.right)
-split_fits before ws t n s RightLow R F h = (h.0, F.right)
-split_fits before ws t n s (Copying i) R F h = tt
-split_fits before ws t n s (CopyingValue i k w) R F h =
-    let q = new_page_fits before n s k F in (q.0, q.1, new_count_fits before s k i h.0 h.1)
-split_fits before ws t n s (CopyingKey i k) R F h =
-    let q = new_page_fits before n s k F in (q.0, q.1, new_count_fits before s k i h.0 h.1)
-split_fits before ws t n s (Syncing i) R F h = levelling_fits ws n s _ _ F (first_found (stands ws s) i (8 - i))
-split_fits before ws t n s (SyncingNew i o) R F h = tt
-split_fits before ws t n s (SyncingSwap i o w) R F h = let c = F.copies i h in (c.0.0, c.0.1, c.1)
-split_fits before ws t n s Linking R F h =
-    linking_fits before ws t n s (Some (link_place (preceding t s.old))) (first_pending t s.old) R F (link_fits n t s.old _ (preceding t s.old) R (first_found (precedes t s.old) 1 64))
-split_fits before ws t n s Finishing R F h = linking_fits before ws t n s None (first_pending t s.old) R F tt
-
-helping_fits : (before : ℕ → ℕ → Bool) (ws : List ℕ) (t : Table) (n : ℕ) (o : Option Split) → InRange n t → ((s : Split) → o ≡ Some s → SplitFits n s) →
-    Fits n (helping_target before ws t o)
-helping_fits before ws t n (Some s) R h = split_fits before ws t n s s.progress R (h s refl) (h s refl).progress
-helping_fits before ws t n None R h = tt
-
--- the step
-
-target_fits : (before : ℕ → ℕ → Bool) (ws : List ℕ) (t : Table) (n : ℕ) (x : Runner) (g : Stage) (u : Standing) → InRange n t → SlotFits x.stage → SlotFits g → StandingFits n (held g) u →
-    Fits n (target_at before ws t x g u)
-target_fits before ws t n x Idle u R k h f = tt
-target_fits before ws t n x Locating u R k h f = tt
-target_fits before ws t n x (WritingValue p i) u R k h f = writing_fits n p (Value p i) u (λ q. (q.0, q.1, h)) f
-target_fits before ws t n x (WritingKey p i) u R k h f = writing_fits n p (Key p i) u (λ q. (q.0, q.1, h)) f
-target_fits before ws t n x (Committing p i) u R k h f = tt
-target_fits before ws t n x Helping u R k h f = helping_fits before ws t n t.split R R.split
-target_fits before ws t n x (Acting p) u R k h f = acting_in_fits before ws t n x p u f
-target_fits before ws t n x (PendingNew p i) u R k h f = pending_in_fits before ws n p x u f k
-target_fits before ws t n x (PendingOld p i m w) u R k h f = pending_in_fits before ws n p x u f k
-target_fits before ws t n x (PendingSwap p i m w o) u R k h f = pending_in_fits before ws n p x u f k
-target_fits before ws t n x (PendingRemove p) u R k h f = pending_in_fits before ws n p x u f k
-target_fits before ws t n x (Comparing p o) u R k h f = tt
-target_fits before ws t n x (ComparingSwap p m w o) u R k h f = comparing_fits before n p x.key m u f h
-target_fits before ws t n x (Reading p) u R k h f = tt
-target_fits before ws t n x (Answered a v) u R k h f = tt
-
-step_fits_by : (before : ℕ → ℕ → Bool) (ws : List ℕ) (t : Table) (n i : ℕ) (a : Activity) → InRange n t → Fits n (step_target_by before ws t i a)
-step_fits_by before ws t n i Resting R = tt
-step_fits_by before ws t n i Open R =
-    target_fits before ws t n (runner_at t i) (runner_at t i).stage (standing t (held (runner_at t i).stage)) R (R.runners i) (R.runners i) (standing_fits n t (held (runner_at t i).stage) R)
-step_fits_by before ws t n i (Waiting a v) R = tt
-
-step_fits_unless : (before : ℕ → ℕ → Bool) (ws : List ℕ) (t : Table) (n i : ℕ) (e : Option Refusal) → InRange n t → Fits n (step_target_unless before ws t i e)
-step_fits_unless before ws t n i (Some e) R = tt
-step_fits_unless before ws t n i None R = step_fits_by before ws t n i (activity (runner_at t i).stage) R
-
-step_fits : (before : ℕ → ℕ → Bool) (ws : List ℕ) (t : Table) (r n : ℕ) → InRange n t → Fits n (step_target before ws t r)
-step_fits before ws t r n R = step_fits_unless before ws t n (r - 1) (runner_refusal t r) R
-
--- the chain
-
-step_on_by : (before : ℕ → ℕ → Bool) (ws : List ℕ) (t : Table) (i : ℕ) (a : Activity) → on_chain (step_target_by before ws t i a) ≡ true → HelpsSetChain t (runner_at t i).stage
-step_on_by before ws t i Resting e = absurd (both_ways false refl e)
-step_on_by before ws t i Open e = splits_set_the_chain before ws t (runner_at t i) e
-step_on_by before ws t i (Waiting a v) e = absurd (both_ways false refl e)
-
-step_on_unless : (before : ℕ → ℕ → Bool) (ws : List ℕ) (t : Table) (i : ℕ) (e : Option Refusal) → on_chain (step_target_unless before ws t i e) ≡ true → HelpsSetChain t (runner_at t i).stage
-step_on_unless before ws t i (Some e) h = absurd (both_ways false refl h)
-step_on_unless before ws t i None h = step_on_by before ws t i (activity (runner_at t i).stage) h
-
--- by the step's word
-chain_kept : (before : ℕ → ℕ → Bool) (ws : List ℕ) (t : Table) (r n : ℕ) (a : Option Place) → step_target before ws t r ≡ a → Fits n a → on_chain a ≡ false →
-    (x : Place) → Within n x → on_chain (Some x) ≡ true → word (stepped before ws t r).0 (place_at x) ≡ word ws (place_at x)
-chain_kept before ws t r n None e f o x h c = ap (λ v. word v (place_at x)) (steps_keep_the_rest.row before ws t r e)
-chain_kept before ws t r n (Some y) e f o x h c =
-    steps_keep_the_rest.places before ws t r n y x e f h (λ d. both_ways (on_chain (Some x)) (rw d at o) c)
-
-off_unless : (b : Bool) → (b ≡ true → ⊥) → b ≡ false
-off_unless true h = absurd (h refl)
-off_unless false h = refl
-
-pub steps_in_range : StepsInRange
-steps_in_range =
+pub range_serves : (n : ℕ) (t : Table) → RangeKept n t → InRange n t
+range_serves n t R =
     record {
-      target = step_fits;
-      chain = λ before ws t r n R no_help x h c.
-          chain_kept before ws t r n (step_target before ws t r) refl (step_fits before ws t r n R)
-          (off_unless (on_chain (step_target before ws t r)) (λ e. no_help (step_on_unless before ws t (r - 1) (runner_refusal t r) e)))
-          x h c;
+      listed = R.listed;
+      runners = λ i. slot_serves (runner_at t i).stage (R.runners i);
+      split = λ s e. split_serves n s (R.split s e);
     }
+
+-- what a split in range has for a key: a page of the book, and room in it
+
+pub new_page_kept : (before : ℕ → ℕ → Bool) (n : ℕ) (s : Split) (k : ℕ) → SplitKept n s → Page n (new_page before s k)
+new_page_kept before n s k F = new_page_fits before n s k (split_serves n s F)
+
+pub new_count_kept : (before : ℕ → ℕ → Bool) (s : Split) (k i : ℕ) → fill s ≤ i → i < 8 → new_count before s k < 8
+new_count_kept before s k i l h = cond_both (on_right before s k) s.rights s.lefts (λ m. m < 8) (λ _. omega arith) (λ _. omega arith)

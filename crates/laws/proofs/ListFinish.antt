@@ -12,7 +12,7 @@ use Rattle.laws.specs.Arrays.{WholeArrays}
 use Rattle.laws.specs.Lists.{Links, listed, next, Apart}
 use Rattle.laws.proofs.Arrays.{writes_are_read, page_whole, linked_whole}
 use Rattle.laws.proofs.Links.{one_before, links_instead, links_after, links_same, LInstead, XInstead, f_instead, place_instead, prev_instead, LAfter, XAfter, place_after, prev_after}
-use Rattle.laws.proofs.KeptRanges.{Found, first_found}
+use Rattle.laws.proofs.Ranges.{Found, first_found}
 use Rattle.laws.proofs.Tables.{page_with}
 
 -- what is read after a write of a row

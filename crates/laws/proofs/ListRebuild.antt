@@ -12,7 +12,7 @@ use Rattle.protocol.specs.Make.{bare_table, made_table}
 use Rattle.protocol.specs.Rebuild.{listing, chain_from, chained, with_tally}
 use Rattle.laws.specs.Arrays.{WholeArrays}
 use Rattle.laws.specs.Lists.{Links, listed, next}
-use Rattle.laws.specs.KeptRanges.{Page}
+use Rattle.laws.specs.Ranges.{Page}
 use Rattle.laws.proofs.Arrays.{page_whole, bare_whole}
 use Rattle.laws.proofs.Calls.{FoundSo}
 use Rattle.laws.proofs.Links.{links_same}

@@ -20,7 +20,7 @@ use Rattle.laws.proofs.FittingLocate.{free_found}
 use Rattle.laws.proofs.FittingSplit.{Above, first_above}
 use Rattle.laws.proofs.ListFinish.{Missed, first_missed}
 use Rattle.laws.proofs.ListHolds.{MoveHolds}
-use Rattle.laws.proofs.KeptRanges.{Found}
+use Rattle.laws.proofs.Ranges.{Found}
 
 -- the covering page is listed
 

@@ -35,11 +35,11 @@ use Rattle.laws.proofs.Kept.{steps_keep_the_rest}
 
 -- what a search finds passes the test and is one of its numbers
 
-abbrev Found : (ℕ → Bool) → ℕ → Option ℕ → Type 0
+abbrev pub Found : (ℕ → Bool) → ℕ → Option ℕ → Type 0
 Found f m None = Unit {0}
 Found f m (Some i) = (i < m) × (f i ≡ true)
 
-first_found : (f : ℕ → Bool) (i n : ℕ) → Found f (i + n) (first_from f i n)
+pub first_found : (f : ℕ → Bool) (i n : ℕ) → Found f (i + n) (first_from f i n)
 unfolding first_from
 first_found f i zero = tt
 first_found f i (suc n) =
@@ -76,7 +76,7 @@ standing_fits n t p R =
 
 -- the new page of a key
 
-new_page_fits : (before : ℕ → ℕ → Bool) (n : ℕ) (s : Split) (k : ℕ) → SplitFits n s → Page n (new_page before s k)
+pub new_page_fits : (before : ℕ → ℕ → Bool) (n : ℕ) (s : Split) (k : ℕ) → SplitFits n s → Page n (new_page before s k)
 new_page_fits before n s k F =
     cond_both (on_right before s k) s.right s.left (Page n)
     (λ e. let z = eqb-false s.right 0 (not-true (eqb s.right 0) (and_parts _ _ e).0) in (omega arith, F.right))
