@@ -79,7 +79,7 @@ impl Progress {
 impl Split {
     // Where an old slot was copied to.
     pub fn copy_at(&self, slot: u8) -> NewSlot
-        ensures { result ≡ copy_at self.entry.now slot }
+        ensures { result ≡ copy_at self.now slot }
     {
         if slot < 8 {
             self.copies[slot as usize]
