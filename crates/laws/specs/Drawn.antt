@@ -1,4 +1,4 @@
--- Change numbers: every enter and every change has one of its own, from 1 to the last one drawn.
+-- Change numbers: the words that runners carry have numbers of their own, from 1 to the last one drawn.
 use Rattle.std.specs.Prelude.{◌≡◌, ℕ, ◌<◌, ◌≤◌, Bool, false, ◌≢◌, List}
 use Rattle.values.specs.ValueWord.{mark_of, number_of}
 use Rattle.protocol.specs.declared.table.Table.{Table}

@@ -8,15 +8,15 @@ use Rattle.protocol.specs.Make.{closed_table}
 use Rattle.protocol.specs.Calls.{made, rebuilt, begun, stepped, collected}
 use Rattle.laws.specs.Arrays.{WholeArrays}
 
--- A list of pages by links: `in_List` says which are in it, `next` what follows each, 0 at the end, and `first` where it begins. `place` gives each its place, from 0, and `prev` the
+-- A list of pages by links: `in_list` says which are in it, `next` what follows each, 0 at the end, and `first` where it begins. `place` gives each its place, from 0, and `prev` the
 -- page before it. No two pages have one place, so that none comes twice.
-pub record Links (in_List : ℕ → Bool) (next : ℕ → ℕ) (first : ℕ) (place prev : ℕ → ℕ) : Type 0 where
-  pub begins : in_List first ≡ true
+pub record Links (in_list : ℕ → Bool) (next : ℕ → ℕ) (first : ℕ) (place prev : ℕ → ℕ) : Type 0 where
+  pub begins : in_list first ≡ true
   pub origin : place first ≡ 0
-  pub follows : (p : ℕ) → in_List p ≡ true → next p ≢ 0 → (in_List (next p) ≡ true) × (place (next p) ≡ place p + 1)
-  pub precedes : (p : ℕ) → in_List p ≡ true → p ≢ first → (in_List (prev p) ≡ true) × (next (prev p) ≡ p)
-  pub own : (p q : ℕ) → in_List p ≡ true → in_List q ≡ true → place p ≡ place q → p ≡ q
-  pub real : (p : ℕ) → in_List p ≡ true → p ≢ 0
+  pub follows : (p : ℕ) → in_list p ≡ true → next p ≢ 0 → (in_list (next p) ≡ true) × (place (next p) ≡ place p + 1)
+  pub precedes : (p : ℕ) → in_list p ≡ true → p ≢ first → (in_list (prev p) ≡ true) × (next (prev p) ≡ p)
+  pub own : (p q : ℕ) → in_list p ≡ true → in_list q ≡ true → place p ≡ place q → p ≡ q
+  pub real : (p : ℕ) → in_list p ≡ true → p ≢ 0
 
 abbrev pub listed : Table → ℕ → Bool
 listed t p = (page_at t p).listed
@@ -31,7 +31,7 @@ pub record Unused (t : Table) (p : ℕ) : Type 0 where
   pub off : listed t p ≡ false
   pub unheld : (i : ℕ) → held (runner_at t i).stage ≢ p
 
--- The old page of a split is listed; its new pages are unused, and are two.
+-- The old page of a split is listed; its new pages are unused, and are not one and the same.
 pub record Apart (t : Table) (s : Split) : Type 0 where
   pub old : listed t s.old ≡ true
   pub left : Unused t s.left

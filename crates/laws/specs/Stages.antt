@@ -49,24 +49,24 @@ abbrev pub may_pend : Option Split → ℕ → Bool
 may_pend o p = splits_at unlinked o p
 
 abbrev pub may_compare : Option Split → (ℕ → Bool) → ℕ → Bool
-may_compare o in_List p = splits_at past_copy o p || not (in_List p)
+may_compare o in_list p = splits_at past_copy o p || not (in_list p)
 
 abbrev pub agrees : Option Split → (ℕ → Bool) → Stage → Bool
-agrees o in_List Idle = true
-agrees o in_List Locating = true
-agrees o in_List (WritingValue p i) = true
-agrees o in_List (WritingKey p i) = true
-agrees o in_List (Committing p i) = true
-agrees o in_List Helping = true
-agrees o in_List (Acting p) = true
-agrees o in_List (PendingNew p i) = may_pend o p
-agrees o in_List (PendingOld p i n w) = may_pend o p
-agrees o in_List (PendingSwap p i n w v) = may_pend o p
-agrees o in_List (PendingRemove p) = may_pend o p
-agrees o in_List (Comparing p v) = may_compare o in_List p
-agrees o in_List (ComparingSwap p n w v) = may_compare o in_List p
-agrees o in_List (Reading p) = may_compare o in_List p
-agrees o in_List (Answered a v) = true
+agrees o in_list Idle = true
+agrees o in_list Locating = true
+agrees o in_list (WritingValue p i) = true
+agrees o in_list (WritingKey p i) = true
+agrees o in_list (Committing p i) = true
+agrees o in_list Helping = true
+agrees o in_list (Acting p) = true
+agrees o in_list (PendingNew p i) = may_pend o p
+agrees o in_list (PendingOld p i n w) = may_pend o p
+agrees o in_list (PendingSwap p i n w v) = may_pend o p
+agrees o in_list (PendingRemove p) = may_pend o p
+agrees o in_list (Comparing p v) = may_compare o in_list p
+agrees o in_list (ComparingSwap p n w v) = may_compare o in_list p
+agrees o in_list (Reading p) = may_compare o in_list p
+agrees o in_list (Answered a v) = true
 
 abbrev pub AllAgree : Table → Type 0
 AllAgree t = (i : ℕ) → agrees t.split (listed t) (runner_at t i).stage ≡ true

@@ -81,7 +81,7 @@ pub fn calls_keep_records_sound()
     ensures { CallsKeepRecords }
 {}
 
-// Every enter and every change has a change number of its own, from 1 to the last one drawn: so it is in a closed book, and every call keeps it so.
+// The words that runners carry have change numbers of their own, no two alike, from 1 to the last one drawn: so it is in a closed book, and every call keeps it so.
 pub fn calls_keep_numbers_apart()
     ensures { CallsKeepNumbers }
 {}
@@ -91,7 +91,7 @@ pub fn calls_keep_arrays_whole()
     ensures { CallsKeepArrays }
 {}
 
-// The pages of an open book are one list in which none comes twice. The old page of a split is in it; the new ones are not, are two, and are held by nobody.
+// The pages of an open book are one list in which none comes twice. The old page of a split is in it; the new ones are not, are not one and the same, and are held by nobody.
 pub fn calls_keep_the_list()
     ensures { CallsKeepLists }
 {}
