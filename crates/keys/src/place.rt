@@ -1,6 +1,6 @@
 // Place keys: a bay by its level, zone and place.
 ghost use Rattle.std.specs.Prelude.{◌≡◌, IfOk, Ok};
-ghost use Rattle.keys.specs.PlaceWord.{level_good, zone_good, place_good, place_key, place_before, place_made, place_parts, parts_of, parts_before};
+ghost use Rattle.keys.specs.PlaceWord.{level_good, zone_good, place_good, place_key, place_before, place_made, place_parts, parts_of};
 ghost use Rattle.keys.specs.PlaceWords.{places_lawful};
 
 use crate::kind::KeyKind;
@@ -11,7 +11,7 @@ use crate::refusal::Refusal;
 pub struct Place;
 
 // What a place key is made of. The types are wide, so that whatever numbers a caller has read can be asked for, and refused.
-#[derive(Clone, Copy, PartialEq, Eq, Debug)]
+#[derive(Clone, Copy, PartialEq, Eq, PartialOrd, Ord, Hash, Debug)]
 pub struct PlaceParts {
     pub level: i32,
     pub zone: u32,
@@ -21,19 +21,19 @@ pub struct PlaceParts {
 fn is_level(level: i32) -> bool
     ensures { result ≡ level_good level }
 {
-    -20 <= level && level <= 50
+    (-20..=50).contains(&level)
 }
 
 fn is_zone(zone: u32) -> bool
     ensures { result ≡ zone_good zone }
 {
-    1 <= zone && zone <= 26
+    (1..=26).contains(&zone)
 }
 
 fn is_place(place: u32) -> bool
     ensures { result ≡ place_good place }
 {
-    1 <= place && place <= 9999
+    (1..=9999).contains(&place)
 }
 
 // The parts that stand in a word, good or not.
@@ -45,19 +45,6 @@ fn parts_of(w: u64) -> PlaceParts
         zone: (w >> 16 & 0xff) as u32,
         place: (w & 0xffff) as u32,
     }
-}
-
-// By level, then by zone, then by place.
-fn parts_before(a: PlaceParts, b: PlaceParts) -> bool
-    ensures { result ≡ parts_before a b }
-{
-    if a.level != b.level {
-        return a.level < b.level;
-    }
-    if a.zone != b.zone {
-        return a.zone < b.zone;
-    }
-    a.place < b.place
 }
 
 impl KeyKind for Place {
@@ -73,7 +60,7 @@ impl KeyKind for Place {
     }
 
     fn comes_before(a: u64, b: u64) -> bool {
-        parts_before(parts_of(a), parts_of(b))
+        parts_of(a) < parts_of(b)
     }
 }
 
