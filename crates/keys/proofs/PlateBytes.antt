@@ -57,6 +57,22 @@ shown_text zero (b ∷ bs) h = let f : ⊥ = omega arith in absurd f
 shown_text (suc n) [] h = refl
 shown_text (suc n) (b ∷ bs) h = ap (λ t. b ∷ t) (shown_text n bs (omega arith))
 
+-- .. and its bytes stand where they stood, with zeros past them
+pub padded_at : (n k : ℕ) (bs : List ℕ) → length bs ≤ n → ◌≡◌ {A = ℕ} (get_or (padded n bs) k 0) (get_or bs k 0)
+unfolding padded
+padded_at zero k [] h = refl
+padded_at zero k (b ∷ bs) h = absurd (omega arith)
+padded_at (suc n) zero [] h = refl
+padded_at (suc n) (suc k) [] h = padded_at n k [] (omega arith)
+padded_at (suc n) zero (b ∷ bs) h = refl
+padded_at (suc n) (suc k) (b ∷ bs) h = padded_at n k bs (omega arith)
+
+pub length_padded : (n : ℕ) (bs : List ℕ) → length (padded n bs) ≡ n
+unfolding padded
+length_padded zero bs = refl
+length_padded (suc n) [] = ap suc (length_padded n [])
+length_padded (suc n) (b ∷ bs) = ap suc (length_padded n bs)
+
 -- a byte past a text is 0, with zeros after the text or without
 zeros_past : (m i : ℕ) → ◌≡◌ {A = ℕ} (get_or (replicate m 0) i 0) 0
 zeros_past zero i = refl
@@ -68,7 +84,7 @@ get_or_zeros [] m i = zeros_past m i
 get_or_zeros (b ∷ bs) m zero = refl
 get_or_zeros (b ∷ bs) m (suc i) = get_or_zeros bs m i
 
-word_none : (n : ℕ) → word_of n [] ≡ 0
+pub word_none : (n : ℕ) → word_of n [] ≡ 0
 unfolding word_of
 word_none zero = refl
 word_none (suc n) = refl

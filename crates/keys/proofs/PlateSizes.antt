@@ -1,45 +1,13 @@
--- How long the text in a word is.
-use Rattle.std.proofs.Common.{◌≡◌, ℕ, zero, suc, ◌+◌, ◌*◌, ◌/◌, ◌%◌, ◌^◌, ◌<◌, ◌≤◌, ◌∷◌, length, sym, refl, ap, ◌∙◌, ⊎_elim, mul_assoc, pow-suc, arith}
-use Rattle.std.proofs.lemmas.Nat.{div-mul-add, mod-mul-add, div-add-mod', mod_below}
-use Rattle.std.proofs.lemmas.Bool.{cases_lt}
-use Rattle.keys.specs.PlateWord.{text_of}
-use Rattle.keys.specs.PlateWords.{bytes_pos, text_none, text_more}
-
--- a zero byte at the end adds nothing to a text
-text_shift : (n v : ℕ) → v < 256 ^ n → text_of (suc n) (v * 256) ≡ text_of n v
-text_shift zero v h = text_none 1 (v * 256) (omega arith) ∙ sym (text_none zero v (omega arith))
-text_shift (suc n) v h =
-    let k = 256 ^ n in
-    let q = v / k in
-    let r = v % k in
-    let l : r < k = mod_below v k (bytes_pos n) in
-    let e : v * 256 ≡ q * 256 ^ suc n + r * 256 = omega (arith, div-add-mod' v k, mul_assoc q k 256, ap (λ x. q * x) (pow-suc 256 n)) in
-    let s : r * 256 < 256 ^ suc n = omega (arith, pow-suc 256 n) in
-    let d : v * 256 / 256 ^ suc n ≡ q = ap (λ x. x / 256 ^ suc n) e ∙ div-mul-add q (256 ^ suc n) (r * 256) s in
-    let m : v * 256 % 256 ^ suc n ≡ r * 256 = ap (λ x. x % 256 ^ suc n) e ∙ mod-mul-add q (256 ^ suc n) (r * 256) s in
-    ⊎_elim
-    (λ (some : 0 < v).
-    text_more (suc n) (v * 256) (omega arith) ∙ (λ i. d i ∷ text_of (suc n) (m i)) ∙ ap (λ t. q ∷ t) (text_shift n r l) ∙ sym (text_more n v some))
-    (λ (none : v ≤ 0). text_none (suc (suc n)) (v * 256) (omega arith) ∙ sym (text_none (suc n) v (omega arith)))
-    (cases_lt 0 v)
-
--- a word that ends in a byte above 0 has a text of full length
-pub text_full : (n w : ℕ) → 0 < w % 256 → length (text_of n w) ≡ n
-unfolding text_of
-text_full zero w h = refl
-text_full (suc zero) w h = ap length (text_more zero w (omega arith))
-text_full (suc (suc n)) w h =
-    let k = 256 ^ suc n in
-    let q = w / k in
-    let e : w % k % 256 ≡ w % 256 = omega (arith, div-add-mod' w k, mul_assoc q (256 ^ n) 256, ap (λ x. q * x) (pow-suc 256 n)) in
-    ap length (text_more (suc n) w (omega arith)) ∙ ap suc (text_full (suc n) (w % k) (omega arith))
-
--- one turn of a loop that drops zero bytes at the end
-pub text_cut : (m n r : ℕ) → n ≡ suc m → r < 256 ^ n → r % 256 ≡ 0 → (r / 256 < 256 ^ m) × (text_of m (r / 256) ≡ text_of n r)
-text_cut m n r e h z =
-    let s : r / 256 < 256 ^ m = omega (arith, ap (λ x. 256 ^ x) e, pow-suc 256 m) in
-    let t : r / 256 * 256 ≡ r = omega arith in
-    (s, sym (text_shift m (r / 256) s) ∙ ap (text_of (suc m)) t ∙ ap (λ x. text_of x r) (sym e))
+-- How long the text in a word is, and that its zeros are those at the end of the word.
+use Rattle.std.proofs.Common.{◌≡◌, ℕ, zero, suc, ◌-◌, ◌*◌, ◌/◌, ◌%◌, ◌^◌, ◌<◌, ◌≤◌, List, [], ◌∷◌, ◌==◌, length, get_or, sym, refl, ap, ◌∙◌, ⊎_elim, arith}
+use Rattle.std.specs.List.{suffix_len}
+use Rattle.std.proofs.lemmas.Nat.{div-add-mod', mod_below}
+use Rattle.std.proofs.lemmas.Bool.{cases_lt, eq-eqb, ne_eqb}
+use Rattle.std.proofs.lemmas.List.{get_or_past}
+use Rattle.std.proofs.lemmas.List.Sums.{suffix_len_is}
+use Rattle.keys.specs.PlateWord.{word_of, text_of, padded}
+use Rattle.keys.specs.PlateWords.{bytes_pos, text_none, text_more, word_back}
+use Rattle.keys.proofs.PlateBytes.{word_none, padded_at, length_padded}
 
 pub length_text : (n w : ℕ) → length (text_of n w) ≤ n
 unfolding text_of
@@ -49,3 +17,34 @@ length_text (suc n) w =
     (λ (some : 0 < w). omega (arith, ap length (text_more n w some), length_text n (w % 256 ^ n)))
     (λ (none : w ≤ 0). omega (arith, ap length (text_none (suc n) w (omega arith))))
     (cases_lt 0 w)
+
+-- a byte and a text end as the text does, or with the byte
+ends : (q : ℕ) (t : List ℕ) → (t ≡ [] → 0 < q) → (0 < length t → 0 < get_or t (length t - 1) 0) → 0 < get_or (q ∷ t) (length t) 0
+ends q [] one more = one refl
+ends q (x ∷ xs) one more = let e : length (x ∷ xs) - 1 ≡ length xs = omega arith in rw e at (more (omega arith))
+
+-- the last byte of a text is not 0
+last_byte : (n w : ℕ) → 0 < length (text_of n w) → 0 < get_or (text_of n w) (length (text_of n w) - 1) 0
+last_byte zero w h = absurd (omega (arith, length_text zero w))
+last_byte (suc n) w h =
+    let k = 256 ^ n in
+    let r = w % k in
+    ⊎_elim
+    (λ (some : 0 < w).
+    let one : text_of n r ≡ [] → 0 < w / k = λ e.
+    let z : r ≡ 0 = sym (word_back n r (mod_below w k (bytes_pos n))) ∙ ap (word_of n) e ∙ word_none n in
+    ⊎_elim (λ (l : 0 < w / k). l) (λ (l : w / k ≤ 0). let f : w / k * k ≡ 0 * k = ap (λ x. x * k) (omega arith) in absurd (omega (arith, div-add-mod' w k))) (cases_lt 0 (w / k)) in
+    let e : length (w / k ∷ text_of n r) - 1 ≡ length (text_of n r) = omega arith in
+    rw (text_more n w some, e) (ends (w / k) (text_of n r) one (last_byte n r)))
+    (λ (none : w ≤ 0). absurd (omega (arith, ap length (text_none (suc n) w (omega arith)))))
+    (cases_lt 0 w)
+
+-- the zeros at the end of a word are those that follow its text
+pub zeros_text : (n w : ℕ) → suffix_len (λ b. b == 0) (padded n (text_of n w)) ≡ n - length (text_of n w)
+zeros_text n w =
+    let t = text_of n w in
+    let l : length t ≤ n = length_text n w in
+    suffix_len_is (λ b. b == 0) (padded n t) (length t) 0 (omega (arith, length_padded n t))
+    (λ k p q. eq-eqb (get_or (padded n t) k 0) 0 (padded_at n k t l ∙ get_or_past t k 0 p))
+    (λ h. ne_eqb (get_or (padded n t) (length t - 1) 0) 0 (λ e. omega (arith, last_byte n w h, padded_at n (length t - 1) t l)))
+    ∙ ap (λ x. x - length t) (length_padded n t)

@@ -1,5 +1,6 @@
 -- Plates as words: seven bytes, highest first, those of the plate and then zeros.
-use Rattle.std.specs.Prelude.{◌≡◌, ℕ, zero, suc, ◌+◌, ◌*◌, ◌/◌, ◌%◌, ◌^◌, Bool, true, false, cond, ◌&&◌, ◌||◌, List, [], ◌∷◌, length, take, Ok, Err, Result, ◌==◌, nat_le, nat_lt}
+use Rattle.std.specs.Prelude.{◌≡◌, ℕ, zero, suc, ◌+◌, ◌-◌, ◌*◌, ◌/◌, ◌%◌, ◌^◌, Bool, true, false, cond, ◌&&◌, ◌||◌, List, [], ◌∷◌, length, take, Ok, Err, Result, ◌==◌, nat_le, nat_lt}
+use Rattle.std.specs.List.{suffix_len}
 use Rattle.keys.specs.declared.refusal.Refusal.{Refusal}
 use Rattle.keys.specs.declared.refusal.Refusal.TheVariants.{NotAKey, NoSuchLength, NoSuchByte}
 use Rattle.keys.specs.declared.plate.PlateText.{PlateText}
@@ -60,13 +61,13 @@ plate_before a b = text_before (plate_text a) (plate_text b)
 abbrev pub plate_made : List ℕ → Result ℕ Refusal
 plate_made bs = cond (length_good (length bs)) (cond (bytes_good bs) (Ok (plate_word bs)) (Err NoSuchByte)) (Err NoSuchLength)
 
--- A text as it is held: its bytes followed by zeros up to seven, and how many bytes it has.
+-- A text as it is held: its bytes followed by zeros up to seven.
 abbrev pub held : List ℕ → PlateText
-held bs = record { bytes = padded 7 bs; size = length bs }
+held bs = record { bytes = padded 7 bs }
 
--- The bytes of a text that is held.
+-- The bytes of a text that is held, without the zeros at their end.
 abbrev pub shown : PlateText → List ℕ
-shown t = take t.size t.bytes
+shown t = take (7 - suffix_len (λ b. b == 0) t.bytes) t.bytes
 
 -- A key gives its text back, and any other word is refused.
 abbrev pub plate_parts : ℕ → Result PlateText Refusal

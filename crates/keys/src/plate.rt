@@ -1,6 +1,7 @@
 // Plate keys: a permit plate of 1 to 7 bytes from A to Z and 0 to 9.
-ghost use Rattle.std.specs.Prelude.{◌≡◌, ◌^◌, ◌<◌, length, IfOk, Ok};
-ghost use Rattle.keys.specs.PlateWord.{length_good, byte_good, bytes_good, plate_text, text_before, plate_key, plate_before, plate_made, plate_parts, held, shown, Shows};
+ghost use Rattle.std.specs.Prelude.{◌≡◌, ◌^◌, ◌<◌, ◌≤◌, ◌==◌, length, IfOk, Ok};
+ghost use Rattle.std.specs.List.{suffix_len};
+ghost use Rattle.keys.specs.PlateWord.{length_good, byte_good, bytes_good, plate_text, plate_key, plate_before, plate_made, plate_parts, held, shown, Shows};
 ghost use Rattle.keys.specs.PlateOrder.{plates_lawful};
 
 use crate::kind::KeyKind;
@@ -13,61 +14,50 @@ const END: u64 = 0x100_0000_0000_0000;
 #[derive(Clone, Copy)]
 pub struct Plate;
 
-// The text of a plate: its bytes followed by zeros, and how many bytes it has.
-#[derive(Clone, Copy)]
+// The text of a plate: its bytes followed by zeros.
+#[derive(Clone, Copy, PartialEq, Eq, Debug)]
 pub struct PlateText {
     bytes: [u8; 7],
-    size: usize,
 }
 
 fn is_length(n: usize) -> bool
     ensures { result ≡ length_good n }
 {
-    1 <= n && n <= 7
+    (1..=7).contains(&n)
 }
 
 fn is_byte(b: u8) -> bool
     ensures { result ≡ byte_good b }
 {
-    (b'A' <= b && b <= b'Z') || (b'0' <= b && b <= b'9')
+    b.is_ascii_uppercase() || b.is_ascii_digit()
 }
 
 // Whether every byte may stand in a plate.
 fn are_bytes(text: &[u8]) -> bool
     ensures { result ≡ bytes_good text.now }
 {
-    for b in text {
-        if !is_byte(*b) {
-            return false;
-        }
-    }
-    true
-}
-
-// How many of the seven bytes of a word stand before the zeros at their end.
-fn text_size(w: u64) -> usize
-    requires { w < 2 ^ 56 }
-    ensures { result ≡ length (plate_text w) }
-{
-    let mut rest = w;
-    let mut size = 7;
-    while 0 < size && rest % 256 == 0 {
-        rest /= 256;
-        size -= 1;
-    }
-    size
+    text.iter().all(|b| is_byte(*b))
 }
 
 // The text that stands in a word, good or not.
+#[tactic(auto, using(crate::proofs::PlateBytes::padded_text))]
 fn text_of(w: u64) -> PlateText
     requires { w < 2 ^ 56 }
     ensures { result ≡ held (plate_text w) }
 {
+    // `[_, bytes @ ..]` gets no proof: it moves an array out of an array.
     let [_, a, b, c, d, e, f, g] = w.to_be_bytes();
     PlateText {
         bytes: [a, b, c, d, e, f, g],
-        size: text_size(w),
     }
+}
+
+// How many zeros stand at the end.
+fn zeros_at_end(bytes: &[u8]) -> usize
+    ensures value { result ≡ suffix_len (λ b. b == 0) bytes.now }
+    ensures within { result ≤ length bytes.now }
+{
+    bytes.iter().rev().take_while(|b| **b == 0).count()
 }
 
 impl PlateText {
@@ -75,20 +65,9 @@ impl PlateText {
     pub fn bytes(&self) -> &[u8]
         ensures { result.now ≡ shown self.now }
     {
-        let bytes: &[u8] = &self.bytes;
-        if self.size < bytes.len() {
-            &bytes[0..self.size]
-        } else {
-            bytes
-        }
+        let zeros = zeros_at_end(&self.bytes);
+        &self.bytes[..self.bytes.len() - zeros]
     }
-}
-
-// Whether the text in a comes before the text in b. Bytes stand highest first, so texts come in the order of their words.
-fn text_before(a: u64, b: u64) -> bool
-    ensures { result ≡ text_before (plate_text a) (plate_text b) }
-{
-    a < b
 }
 
 impl KeyKind for Plate {
@@ -98,21 +77,26 @@ impl KeyKind for Plate {
 
     ghost lawful = { plates_lawful };
 
+    #[tactic(auto, using(crate::proofs::PlateTrips::shown_held))]
     fn is_key(w: u64) -> bool {
         if END <= w {
             return false;
         }
         let text = text_of(w);
-        is_length(text.size) && are_bytes(text.bytes())
+        let bytes = text.bytes();
+        is_length(bytes.len()) && are_bytes(bytes)
     }
 
+    // Bytes stand highest first, so texts come in the order of their words.
+    #[tactic(auto, using(crate::specs::PlateOrder::by_number))]
     fn comes_before(a: u64, b: u64) -> bool {
-        text_before(a, b)
+        a < b
     }
 }
 
 impl Plate {
     // The key of a plate, which comes apart into its bytes again.
+    #[tactic(auto, using(crate::proofs::PlateBytes::written_eight, crate::proofs::PlateTrips::made_of_good, crate::proofs::PlateTrips::made_and_parted))]
     pub fn make(text: &[u8]) -> Result<u64, Refusal>
         ensures value { result ≡ plate_made text.now }
         ensures same { IfOk result (λ w. Shows text.now (plate_parts w)) }
@@ -129,6 +113,7 @@ impl Plate {
     }
 
     // The plate of a key, which makes that key again.
+    #[tactic(auto, using(crate::proofs::PlateTrips::parted_and_made))]
     pub fn parts(w: u64) -> Result<PlateText, Refusal>
         ensures value { result ≡ plate_parts w }
         ensures same { IfOk result (λ t. plate_made (shown t) ≡ Ok w) }
