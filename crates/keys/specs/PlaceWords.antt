@@ -1,7 +1,6 @@
 -- Places as words: their order is that of a number, and they come apart into what they were made of.
-use Rattle.std.specs.Prelude.{◌≡◌, ℕ, ◌+◌, ◌*◌, ◌/◌, ◌%◌, ◌^◌, ◌<◌, true, false, cond, ltb, ℤ, pos, negsuc, Ok, Err, FitsSigned, bit_or, int_lt, nat_lt, refl}
-use Rattle.std.proofs.Common.{sym, ap, ◌∙◌, arith, to_z, of_z}
-use Rattle.std.specs.Int.{w8}
+use Rattle.std.specs.Prelude.{◌≡◌, ℕ, ◌+◌, ◌*◌, ◌/◌, ◌%◌, ◌^◌, ◌<◌, true, false, cond, ltb, ℤ, pos, negsuc, Ok, Err, bit_or, int_lt, nat_lt, refl}
+use Rattle.std.proofs.Common.{sym, ap, ◌∙◌, arith}
 use Rattle.std.proofs.lemmas.Nat.{or_shifted}
 use Rattle.std.proofs.lemmas.Int.{ints}
 use Rattle.std.proofs.lemmas.Bool.{and_parts, and_from, lt-ltb, ltb-true, cond-true}
@@ -46,17 +45,7 @@ one_rank a b ka kb e = omega (arith, key_small a ka, key_small b kb)
 pub places_lawful : Lawful place_key place_before
 places_lawful = lawful_by_rank place_key place_before rank refl by_rank one_rank
 
--- a byte read as a signed number is the level that it stands for
-pub signed_byte : (b : ℕ) → b < 256 → to_z w8 b ≡ byte_level b
-signed_byte b h = grind (arith, nat_tests)
-
--- a good level fits a byte, and comes back from it
-pub level_fits : (l : ℤ) → level_good l ≡ true → FitsSigned w8 l
-level_fits l h = grind (arith, ints)
-
-pub level_bits : (l : ℤ) → level_good l ≡ true → of_z w8 l ≡ level_byte l
-level_bits l h = grind (arith, ints)
-
+-- a good level comes back from its byte
 level_back : (l : ℤ) → level_good l ≡ true → byte_level (level_byte l) ≡ l
 level_back l h = grind (arith, ints)
 
@@ -65,10 +54,10 @@ level_small : (l : ℤ) → level_byte l < 256
 level_small (pos n) = omega arith
 level_small (negsuc n) = omega arith
 
-pub zone_small : (z : ℕ) → zone_good z ≡ true → z < 256
+zone_small : (z : ℕ) → zone_good z ≡ true → z < 256
 zone_small z h = grind (arith, nat_tests)
 
-pub place_small : (p : ℕ) → place_good p ≡ true → p < 65536
+place_small : (p : ℕ) → place_good p ≡ true → p < 65536
 place_small p h = grind (arith, nat_tests)
 
 pub joined_bits : (u z p : ℕ) → u < 256 → z < 256 → p < 65536

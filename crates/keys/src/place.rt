@@ -1,6 +1,6 @@
 // Place keys: a bay by its level, zone and place.
-ghost use Rattle.std.specs.Prelude.{◌≡◌, IfOk, Ok};
-ghost use Rattle.keys.specs.PlaceWord.{level_good, zone_good, place_good, place_key, place_before, place_made, place_parts, parts_of};
+ghost use Rattle.std.specs.Prelude.{◌≡◌, true, IfOk, Ok};
+ghost use Rattle.keys.specs.PlaceWord.{level_good, zone_good, place_good, place_word, place_key, place_before, place_made, place_parts, parts_of};
 ghost use Rattle.keys.specs.PlaceWords.{places_lawful};
 
 use crate::kind::KeyKind;
@@ -41,10 +41,22 @@ fn parts_of(w: u64) -> PlaceParts
     ensures { result ≡ parts_of w }
 {
     PlaceParts {
-        level: ((w >> 24 & 0xff) as u8).cast_signed() as i32,
+        level: i32::from(((w >> 24 & 0xff) as u8).cast_signed()),
         zone: (w >> 16 & 0xff) as u32,
         place: (w & 0xffff) as u32,
     }
+}
+
+// The word that good parts make.
+#[tactic(auto, using(crate::specs::PlaceWords::joined_bits))]
+fn word_of(parts: PlaceParts) -> u64
+    requires level { level_good parts.level ≡ true }
+    requires zone { zone_good parts.zone ≡ true }
+    requires place { place_good parts.place ≡ true }
+    ensures { result ≡ place_word parts }
+{
+    let level = (parts.level as i8).cast_unsigned();
+    u64::from(level) << 24 | u64::from(parts.zone) << 16 | u64::from(parts.place)
 }
 
 impl KeyKind for Place {
@@ -66,6 +78,7 @@ impl KeyKind for Place {
 
 impl Place {
     // The key of a place, which comes apart into its parts again.
+    #[tactic(auto, using(crate::specs::PlaceWords::made_of_good, crate::specs::PlaceWords::made_and_parted))]
     pub fn make(parts: PlaceParts) -> Result<u64, Refusal>
         ensures value { result ≡ place_made parts }
         ensures same { IfOk result (λ w. place_parts w ≡ Ok parts) }
@@ -79,8 +92,7 @@ impl Place {
         if !is_place(parts.place) {
             return Err(Refusal::NoSuchPlace);
         }
-        let level = (parts.level as i8).cast_unsigned();
-        Ok((level as u64) << 24 | (parts.zone as u64) << 16 | parts.place as u64)
+        Ok(word_of(parts))
     }
 
     // The place of a key, which makes that key again.
