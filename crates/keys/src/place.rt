@@ -1,10 +1,12 @@
 // Place keys: a bay by its level, zone and place.
-ghost use Rattle.std.specs.Prelude.{◌≡◌, true, IfOk, Ok};
+ghost use Rattle.std.specs.Prelude.{◌≡◌, ◌++◌, true, codes, IfOk, Ok, Some};
+ghost use Rattle.std.specs.Fmt.{decimal, signed_decimal};
 ghost use Rattle.keys.specs.PlaceWord.{level_good, zone_good, place_good, place_word, place_key, place_before, place_made, place_parts, parts_of};
 ghost use Rattle.keys.specs.PlaceWords.{places_lawful};
 
 use crate::kind::KeyKind;
 use crate::refusal::Refusal;
+use std::fmt;
 
 // The kind of place keys.
 #[derive(Clone, Copy)]
@@ -16,6 +18,15 @@ pub struct PlaceParts {
     pub level: i32,
     pub zone: u32,
     pub place: u32,
+}
+
+// As LEVEL/ZONE/PLACE.
+impl fmt::Display for PlaceParts {
+    ghost output = { λ p. Some (signed_decimal p.level ++ codes "/" ++ decimal p.zone ++ codes "/" ++ decimal p.place) };
+
+    fn fmt<W: fmt::Write>(&self, f: &mut fmt::Formatter<W>) -> fmt::Result {
+        write!(f, "{}/{}/{}", self.level, self.zone, self.place)
+    }
 }
 
 fn is_level(level: i32) -> bool

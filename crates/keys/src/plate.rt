@@ -1,11 +1,13 @@
 // Plate keys: a permit plate of 1 to 7 bytes from A to Z and 0 to 9.
-ghost use Rattle.std.specs.Prelude.{◌≡◌, ◌^◌, ◌<◌, ◌≤◌, ◌==◌, length, IfOk, Ok};
-ghost use Rattle.std.specs.List.{suffix_len};
+ghost use Rattle.std.specs.Prelude.{◌≡◌, ◌^◌, ◌<◌, ◌≤◌, ◌==◌, length, IfOk, Ok, Some};
+ghost use Rattle.std.specs.List.{flat_map, suffix_len};
+ghost use Rattle.std.specs.Char.{encode_utf8};
 ghost use Rattle.keys.specs.PlateWord.{length_good, byte_good, bytes_good, plate_text, plate_key, plate_before, plate_made, plate_parts, held, shown, Shows};
 ghost use Rattle.keys.specs.PlateOrder.{plates_lawful};
 
 use crate::kind::KeyKind;
 use crate::refusal::Refusal;
+use std::fmt;
 
 // The first word that has more than the seven bytes of a plate.
 const END: u64 = 0x100_0000_0000_0000;
@@ -67,6 +69,18 @@ impl PlateText {
     {
         let zeros = zeros_at_end(&self.bytes);
         &self.bytes[..self.bytes.len() - zeros]
+    }
+}
+
+// Each byte as the character that it stands for.
+impl fmt::Display for PlateText {
+    ghost output = { λ t. Some (flat_map encode_utf8 (shown t)) };
+
+    fn fmt<W: fmt::Write>(&self, f: &mut fmt::Formatter<W>) -> fmt::Result {
+        for b in self.bytes() {
+            f.write_char(char::from(*b))?;
+        }
+        Ok(())
     }
 }
 
