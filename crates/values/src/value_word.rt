@@ -9,7 +9,7 @@ const NUMBER_BITS: u32 = 31;
 const VALUE_BITS: u32 = 32;
 
 // The parts of a value word.
-#[derive(Clone, Copy)]
+#[derive(Clone, Copy, PartialEq, Eq, Debug)]
 pub struct ValueWord {
     pub mark: bool,
     pub number: u32,
@@ -35,23 +35,27 @@ fn above(high: u64, bits: u32, low: u64) -> u64
 }
 
 // A number of 32 bits loses its highest, so that it never reads as a mark.
-pub fn pack(parts: ValueWord) -> u64
-    ensures { result ≡ packed parts }
-{
-    above(
-        parts.mark as u64,
-        MARK_BIT,
-        fresh(parts.number, parts.value),
-    )
+impl From<ValueWord> for u64 {
+    ghost from_gives = { λ parts w. w ≡ packed parts };
+
+    fn from(parts: ValueWord) -> u64 {
+        above(
+            u64::from(parts.mark),
+            MARK_BIT,
+            fresh(parts.number, parts.value),
+        )
+    }
 }
 
-pub fn unpack(w: u64) -> ValueWord
-    ensures { result ≡ unpacked w }
-{
-    ValueWord {
-        mark: is_marked(w),
-        number: number_of(w),
-        value: value_of(w),
+impl From<u64> for ValueWord {
+    ghost from_gives = { λ w parts. parts ≡ unpacked w };
+
+    fn from(w: u64) -> ValueWord {
+        ValueWord {
+            mark: is_marked(w),
+            number: number_of(w),
+            value: value_of(w),
+        }
     }
 }
 
@@ -77,7 +81,11 @@ pub fn value_of(w: u64) -> u32
 pub fn fresh(number: u32, value: u32) -> u64
     ensures { result ≡ fresh_word number value }
 {
-    above(lowest(number as u64, NUMBER_BITS), VALUE_BITS, value as u64)
+    above(
+        lowest(u64::from(number), NUMBER_BITS),
+        VALUE_BITS,
+        u64::from(value),
+    )
 }
 
 pub fn marked(w: u64) -> u64
@@ -103,7 +111,7 @@ pub fn is_same(a: u64, b: u64) -> bool
 pub fn repacked(w: u64) -> u64
     ensures { result ≡ w }
 {
-    pack(unpack(w))
+    u64::from(ValueWord::from(w))
 }
 
 // Parts come back from their word if their number has 31 bits.
@@ -111,7 +119,7 @@ pub fn reparted(parts: ValueWord) -> ValueWord
     ensures value { result ≡ unpacked (packed parts) }
     ensures same { parts.number < 2147483648 → result ≡ parts }
 {
-    unpack(pack(parts))
+    ValueWord::from(u64::from(parts))
 }
 
 #[cfg(test)]
@@ -129,7 +137,7 @@ mod tests {
 
     #[test]
     fn parts_of_the_highest_word(rt: HostRuntime) {
-        let parts = unpack(0xffff_ffff_ffff_ffff);
+        let parts = ValueWord::from(0xffff_ffff_ffff_ffff);
         assert!(rt; parts.mark);
         assert_eq!(rt; parts.number, 2147483647);
         assert_eq!(rt; parts.value, 4294967295);
