@@ -1,37 +1,39 @@
 // How a kind shows its keys.
 use crate::printout::Printout;
 use keys::kind::KeyKind;
-use keys::place::Place;
-use keys::plate::Plate;
+use keys::place::{Place, PlaceParts};
+use keys::plate::{Plate, PlateText};
+use keys::refusal::Refusal;
 use std::alloc::AllocError;
+use std::fmt::Display;
 
 pub(crate) trait KeyText: KeyKind {
-    // A key of the kind as a script writes it, any other word as `@WORD`.
-    fn put_key(key: u64, out: &mut Printout) -> Result<(), AllocError>;
+    // What a key of the kind stands for, which prints as a script writes it.
+    type Parts: Display + Drop;
+
+    fn parts(word: u64) -> Result<Self::Parts, Refusal>;
 }
 
 impl KeyText for Place {
-    fn put_key(key: u64, out: &mut Printout) -> Result<(), AllocError> {
-        match Place::parts(key) {
-            Ok(parts) => {
-                let level = parts.level;
-                let zone = parts.zone;
-                let place = parts.place;
-                write!(out, "{level}/{zone}/{place}")
-            }
-            Err(_) => write!(out, "@{key}"),
-        }
+    type Parts = PlaceParts;
+
+    fn parts(word: u64) -> Result<PlaceParts, Refusal> {
+        Place::parts(word)
     }
 }
 
 impl KeyText for Plate {
-    fn put_key(key: u64, out: &mut Printout) -> Result<(), AllocError> {
-        match Plate::parts(key) {
-            Ok(text) => {
-                let bytes = text.bytes();
-                out.put_part(bytes, 0, bytes.len())
-            }
-            Err(_) => write!(out, "@{key}"),
-        }
+    type Parts = PlateText;
+
+    fn parts(word: u64) -> Result<PlateText, Refusal> {
+        Plate::parts(word)
+    }
+}
+
+// A key of the kind as a script writes it, any other word as `@WORD`.
+pub(crate) fn put_key<K: KeyText>(word: u64, out: &mut Printout) -> Result<(), AllocError> {
+    match K::parts(word) {
+        Ok(parts) => write!(out, "{parts}"),
+        Err(_) => write!(out, "@{word}"),
     }
 }

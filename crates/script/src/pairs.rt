@@ -1,5 +1,5 @@
 // The pairs that stand in a row.
-use crate::key_text::KeyText;
+use crate::key_text::{KeyText, put_key};
 use crate::pages::Pages;
 use crate::printout::Printout;
 use memory::kept::KeptMemory;
@@ -26,7 +26,7 @@ fn put_page<M: KeptMemory, K: KeyText>(
         let key = word(memory, key_at(page, slot));
         if key != 0 {
             let value = value_of(word(memory, value_at(page, slot)));
-            K::put_key(key, out)?;
+            put_key::<K>(key, out)?;
             writeln!(out, " {value}")?;
             count = count.saturating_add(1);
         }

@@ -1,6 +1,6 @@
 // The state of a book, for a person: its table, line by line.
 use crate::answer::put_answer;
-use crate::key_text::KeyText;
+use crate::key_text::{KeyText, put_key};
 use crate::pages::Pages;
 use crate::printout::Printout;
 use crate::stages::{put_progress, put_stage};
@@ -47,7 +47,7 @@ fn put_split<K: KeyText>(split: Split, out: &mut Printout) -> Result<(), AllocEr
     write!(out, "  split: page {old} into ")?;
     put_new_pages(split.left, split.right, out)?;
     write!(out, " at ")?;
-    K::put_key(split.key, out)?;
+    put_key::<K>(split.key, out)?;
     write!(out, ", ")?;
     put_progress(split.progress, split.right != 0, out)?;
     writeln!(out, "")
@@ -66,7 +66,7 @@ fn operation_name(operation: Operation) -> &'static str {
 fn put_open<K: KeyText>(runner: Runner, out: &mut Printout) -> Result<(), AllocError> {
     let name = operation_name(runner.operation);
     write!(out, "{name} ")?;
-    K::put_key(runner.key, out)?;
+    put_key::<K>(runner.key, out)?;
     match runner.operation {
         Operation::Enter | Operation::Change => {
             let value = value_of(runner.word);
