@@ -1,9 +1,9 @@
 -- Places as words: their order is that of a number, and they come apart into what they were made of.
-use Rattle.std.specs.Prelude.{◌≡◌, ℕ, ◌+◌, ◌*◌, ◌/◌, ◌%◌, ◌^◌, ◌<◌, true, false, cond, ltb, ℤ, pos, negsuc, Ok, Err, bit_or, int_lt, nat_lt, refl}
+use Rattle.std.specs.Prelude.{◌≡◌, ℕ, ◌+◌, ◌*◌, ◌/◌, ◌%◌, ◌^◌, ◌<◌, true, false, cond, ltb, ℤ, Ok, Err, bit_or, int_lt, nat_lt, refl}
 use Rattle.std.proofs.Common.{sym, ap, ◌∙◌, arith}
 use Rattle.std.proofs.lemmas.Nat.{or_shifted}
 use Rattle.std.proofs.lemmas.Int.{ints}
-use Rattle.std.proofs.lemmas.Bool.{and_parts, and_from, lt-ltb, ltb-true, cond-true}
+use Rattle.std.proofs.lemmas.Bool.{cond-true}
 use Rattle.std.proofs.lemmas.Bool.Decides.{nat_tests}
 use Rattle.keys.specs.Order.{Lawful}
 use Rattle.keys.specs.PlaceWord.{level_good, zone_good, place_good, level_byte, byte_level, place_word, parts_of, place_key, place_before, place_made, place_parts}
@@ -37,7 +37,7 @@ by_rank a b =
 
 -- a place key has 32 bits
 key_small : (w : ℕ) → place_key w ≡ true → w < 4294967296
-key_small w h = ltb-true w 4294967296 (and_parts _ _ (and_parts _ _ (and_parts _ _ h).0).0).0
+key_small w h = grind (arith, nat_tests)
 
 one_rank : (a b : ℕ) → place_key a ≡ true → place_key b ≡ true → rank a ≡ rank b → a ≡ b
 one_rank a b ka kb e = omega (arith, key_small a ka, key_small b kb)
@@ -51,8 +51,7 @@ level_back l h = grind (arith, ints)
 
 -- each part has its own bits in the word
 level_small : (l : ℤ) → level_byte l < 256
-level_small (pos n) = omega arith
-level_small (negsuc n) = omega arith
+level_small l = grind (arith, ints)
 
 zone_small : (z : ℕ) → zone_good z ≡ true → z < 256
 zone_small z h = grind (arith, nat_tests)
@@ -84,6 +83,5 @@ module _ (p : PlaceParts) (hl : level_good p.level ≡ true) (hz : zone_good p.z
       let el : byte_level (w / 16777216 % 256) ≡ p.level = ap byte_level eu ∙ level_back p.level hl in
       let ez : w / 65536 % 256 ≡ p.zone = omega arith in
       let ep : w % 65536 ≡ p.place = omega arith in
-      let k : place_key w ≡ true =
-      and_from _ _ (and_from _ _ (and_from _ _ (lt-ltb w 4294967296 (omega arith)) (ap level_good el ∙ hl)) (ap zone_good ez ∙ hz)) (ap place_good ep ∙ hp) in
+      let k : place_key w ≡ true = grind (arith, nat_tests, hl, hz, hp, el) in
       cond-true (place_key w) (Ok (parts_of w)) (Err NotAKey) k ∙ (λ i. Ok (record { level = el i; zone = ez i; place = ep i }))
