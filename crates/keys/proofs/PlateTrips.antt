@@ -1,8 +1,7 @@
 -- There and back: a plate from its word, and a word from its plate.
-use Rattle.std.proofs.Common.{◌≡◌, ℕ, ◌-◌, ◌<◌, ◌≤◌, true, List, length, take, Ok, Err, sym, ap, ◌∙◌, subst, arith}
-use Rattle.std.proofs.lemmas.Bool.{and_parts, and_from, lt-ltb, ltb-true, leb-true, cond-true}
+use Rattle.std.proofs.Common.{◌≡◌, ℕ, ◌-◌, ◌<◌, ◌≤◌, true, List, length, take, Ok, ap, ◌∙◌, arith}
+use Rattle.std.proofs.lemmas.Bool.Decides.{nat_tests}
 use Rattle.keys.specs.PlateWord.{length_good, bytes_good, plate_word, plate_text, plate_key, plate_made, plate_parts, padded, held, shown, Shows}
-use Rattle.keys.specs.declared.refusal.Refusal.TheVariants.{NotAKey}
 use Rattle.keys.proofs.PlateBytes.{shown_text}
 use Rattle.keys.proofs.PlateSizes.{length_text, zeros_text}
 use Rattle.keys.specs.PlateWords.{word_small, text_back, word_back}
@@ -23,16 +22,14 @@ module _ (bs : List ℕ) (hl : length_good (length bs) ≡ true) (hb : bytes_goo
   pub made_and_parted : Shows bs (plate_parts (plate_word bs))
   made_and_parted =
       let w = plate_word bs in
-      let short : length bs ≤ 7 = leb-true (length bs) 7 (and_parts _ _ hl).1 in
+      let short : length bs ≤ 7 = grind (arith, nat_tests, hl) in
       let t : plate_text w ≡ bs = text_back 7 bs short hb in
-      let k : plate_key w ≡ true =
-      and_from _ _ (and_from _ _ (lt-ltb w 72057594037927936 (word_small 7 bs hb)) (ap (λ x. length_good (length x)) t ∙ hl)) (ap bytes_good t ∙ hb) in
-      let p : plate_parts w ≡ Ok (held bs) = cond-true (plate_key w) (Ok (held (plate_text w))) (Err NotAKey) k ∙ ap (λ x. Ok (held x)) t in
-      subst (λ r. Shows bs r) (sym p) (ap (λ x. shown (held x)) (sym t) ∙ shown_held w ∙ t)
+      let k : plate_key w ≡ true = rw (t, hl, hb) (grind (arith, nat_tests, word_small 7 bs hb)) in
+      let s : shown (held bs) ≡ bs = rw t at (shown_held w) in
+      rw (k, t) s
 
 -- what comes apart makes what it came from
 pub parted_and_made : (w : ℕ) → plate_key w ≡ true → plate_made (shown (held (plate_text w))) ≡ Ok w
 parted_and_made w k =
-    let good = and_parts _ _ k in
-    let small : w < 72057594037927936 = ltb-true w 72057594037927936 (and_parts _ _ good.0).0 in
-    ap plate_made (shown_held w) ∙ made_of_good (plate_text w) (and_parts _ _ good.0).1 good.1 ∙ ap Ok (word_back 7 w small)
+    let small : w < 72057594037927936 = grind (arith, nat_tests, k) in
+    rw (shown_held w) (grind (arith, nat_tests, k, word_back 7 w small))

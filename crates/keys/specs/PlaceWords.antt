@@ -1,39 +1,23 @@
 -- Places as words: their order is that of a number, and they come apart into what they were made of.
-use Rattle.std.specs.Prelude.{◌≡◌, ℕ, ◌+◌, ◌*◌, ◌/◌, ◌%◌, ◌^◌, ◌<◌, true, false, cond, ltb, ℤ, Ok, Err, bit_or, int_lt, nat_lt, refl}
-use Rattle.std.proofs.Common.{sym, ap, ◌∙◌, arith}
+use Rattle.std.specs.Prelude.{◌≡◌, ℕ, ◌+◌, ◌*◌, ◌/◌, ◌%◌, ◌^◌, ◌<◌, true, ℤ, Ok, bit_or, nat_lt, refl}
+use Rattle.std.proofs.Common.{ap, ◌∙◌, arith}
 use Rattle.std.proofs.lemmas.Nat.{or_shifted}
 use Rattle.std.proofs.lemmas.Int.{ints}
-use Rattle.std.proofs.lemmas.Bool.{cond-true}
 use Rattle.std.proofs.lemmas.Bool.Decides.{nat_tests}
 use Rattle.keys.specs.Order.{Lawful}
-use Rattle.keys.specs.PlaceWord.{level_good, zone_good, place_good, level_byte, byte_level, place_word, parts_of, place_key, place_before, place_made, place_parts}
+use Rattle.keys.specs.PlaceWord.{level_good, zone_good, place_good, level_byte, byte_level, place_word, place_key, place_before, place_made, place_parts}
 use Rattle.keys.specs.declared.place.PlaceParts.{PlaceParts}
-use Rattle.keys.specs.declared.refusal.Refusal.TheVariants.{NotAKey}
-use Rattle.keys.specs.Lexical.{lex, lex_number}
 use Rattle.keys.specs.Ranks.{lawful_by_rank}
 
 -- the byte of a level, turned by 128 so that it grows with the level
 abbrev turned : ℕ → ℕ
 turned b = (b + 128) % 256
 
-levels_turned : (x y : ℕ) → x < 256 → y < 256 → int_lt (byte_level x) (byte_level y) ≡ nat_lt (turned x) (turned y)
-levels_turned x y hx hy = grind (arith, nat_tests)
-
 abbrev rank : ℕ → ℕ
 rank w = turned (w / 16777216 % 256) * 16777216 + w % 16777216
 
 by_rank : (a b : ℕ) → place_before a b ≡ nat_lt (rank a) (rank b)
-by_rank a b =
-    let x = a / 16777216 % 256 in
-    let y = b / 16777216 % 256 in
-    let up : int_lt (byte_level x) (byte_level y) ≡ ltb (turned x) (turned y) = levels_turned x y (omega arith) (omega arith) in
-    let down : int_lt (byte_level y) (byte_level x) ≡ ltb (turned y) (turned x) = levels_turned y x (omega arith) (omega arith) in
-    let low_a : a / 65536 % 256 * 65536 + a % 65536 ≡ a % 16777216 = omega arith in
-    let low_b : b / 65536 % 256 * 65536 + b % 65536 ≡ b % 16777216 = omega arith in
-    let low : lex (a / 65536 % 256) (b / 65536 % 256) (nat_lt (a % 65536) (b % 65536)) ≡ ltb (a % 16777216) (b % 16777216) =
-    sym (lex_number 65536 (a / 65536 % 256) (b / 65536 % 256) (a % 65536) (b % 65536) (omega arith) (omega arith)) ∙ (λ i. ltb (low_a i) (low_b i)) in
-    (λ i. cond (up i) true (cond (down i) false (low i)))
-    ∙ sym (lex_number 16777216 (turned x) (turned y) (a % 16777216) (b % 16777216) (omega arith) (omega arith))
+by_rank a b = grind (arith, nat_tests)
 
 -- a place key has 32 bits
 key_small : (w : ℕ) → place_key w ≡ true → w < 4294967296
@@ -74,14 +58,5 @@ module _ (p : PlaceParts) (hl : level_good p.level ≡ true) (hz : zone_good p.z
   -- what is made comes apart into what it was made of
   pub made_and_parted : place_parts (place_word p) ≡ Ok p
   made_and_parted =
-      let u = level_byte p.level in
-      let w = place_word p in
-      let bu : u < 256 = level_small p.level in
-      let bz : p.zone < 256 = zone_small p.zone hz in
-      let bp : p.place < 65536 = place_small p.place hp in
-      let eu : w / 16777216 % 256 ≡ u = omega arith in
-      let el : byte_level (w / 16777216 % 256) ≡ p.level = ap byte_level eu ∙ level_back p.level hl in
-      let ez : w / 65536 % 256 ≡ p.zone = omega arith in
-      let ep : w % 65536 ≡ p.place = omega arith in
-      let k : place_key w ≡ true = grind (arith, nat_tests, hl, hz, hp, el) in
-      cond-true (place_key w) (Ok (parts_of w)) (Err NotAKey) k ∙ (λ i. Ok (record { level = el i; zone = ez i; place = ep i }))
+      let el : byte_level (place_word p / 16777216 % 256) ≡ p.level = ap byte_level (omega (arith, level_small p.level, zone_small p.zone hz, place_small p.place hp)) ∙ level_back p.level hl in
+      grind (arith, nat_tests, hl, hz, hp, el)
