@@ -13,6 +13,7 @@ use std::fmt;
 pub struct Place;
 
 // What a place key is made of. The types are wide, so that whatever numbers a caller has read can be asked for, and refused.
+// Places come by level, then by zone, then by place, as the fields stand.
 #[derive(Clone, Copy, PartialEq, Eq, PartialOrd, Ord, Hash, Debug)]
 pub struct PlaceParts {
     pub level: i32,

@@ -16,7 +16,7 @@ const END: u64 = 0x100_0000_0000_0000;
 #[derive(Clone, Copy)]
 pub struct Plate;
 
-// The text of a plate: its bytes followed by zeros.
+// The text of a plate: its bytes followed by zeros, since no byte of a plate is 0.
 #[derive(Clone, Copy, PartialEq, Eq, Debug)]
 pub struct PlateText {
     bytes: [u8; 7],
