@@ -1,22 +1,34 @@
 // Why an answer line is not written.
-ghost use Rattle.std.specs.Prelude.{◌≡◌};
+ghost use Rattle.std.specs.Prelude.{◌≡◌, ◌++◌, Some, codes, decimal};
 ghost use Rattle.answers.specs.Refusals.{number_of};
+
+use std::error::Error;
+use std::fmt;
 
 #[derive(Clone, Copy, PartialEq, Eq, Debug)]
 pub enum Refusal {
-    NoSuchRunner,
-    NoSuchAnswer,
-    ShortBuffer,
+    // The runner is not 1 to 8.
+    NoSuchRunner = 10,
+    // The answer is above 3.
+    NoSuchAnswer = 40,
+    // The buffer has fewer than 32 bytes.
+    ShortBuffer = 41,
 }
 
 impl Refusal {
     pub fn number(self) -> u8
         ensures { result ≡ number_of self }
     {
-        match self {
-            Refusal::NoSuchRunner => 10,
-            Refusal::NoSuchAnswer => 40,
-            Refusal::ShortBuffer => 41,
-        }
+        self as u8
     }
 }
+
+impl fmt::Display for Refusal {
+    ghost output = { λ refusal. Some (codes "refused " ++ decimal (number_of refusal)) };
+
+    fn fmt<W: fmt::Write>(&self, f: &mut fmt::Formatter<W>) -> fmt::Result {
+        write!(f, "refused {}", self.number())
+    }
+}
+
+impl Error for Refusal {}
