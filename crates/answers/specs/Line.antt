@@ -20,11 +20,6 @@ refused l room =
     (cond (nat_le l.answer 3) (cond (nat_le 32 room) None (Some ShortBuffer)) (Some NoSuchAnswer))
     (Some NoSuchRunner)
 
--- A check for a refusal, before anything is written.
-abbrev pub checked : Option Refusal → Result (Unit {0}) Refusal
-checked None = Ok tt
-checked (Some e) = Err e
-
 -- What is answered: the length of the line, or the refusal.
 abbrev pub answered : Option Refusal → AnswerLine → Result ℕ Refusal
 answered None l = Ok (length (line l))

@@ -1,7 +1,6 @@
 #![tactic(auto)]
 
 mod line;
-mod put;
 mod refusal;
 
 pub use line::AnswerLine;

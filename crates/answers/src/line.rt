@@ -1,9 +1,13 @@
 // The line that tells one answer: runner, words of the answer, value.
-ghost use Rattle.std.specs.Prelude.{◌≡◌, ◌++◌, length, drop, None, OnOk};
-ghost use Rattle.answers.specs.Line.{words, line, refused, checked, answered, written, ReadsBack};
+ghost use Rattle.std.specs.Prelude.{◌≡◌, ◌≤◌, ◌↔◌, length, IsSome, IfSome, OnOk};
+ghost use Rattle.answers.specs.Line.{words, line, refused, answered, written, ReadsBack};
 
-use crate::put::{put, put_decimal};
 use crate::refusal::Refusal;
+use arrayvec::ArrayString;
+use itoa::Buffer;
+
+// The bytes that a line is given. The longest has 27: the words take up to 13 and the value up to 10.
+const ROOM: usize = 32;
 
 // What a line tells. The answer goes by its number: 0 done, 1 already there, 2 not there, 3 no room.
 #[derive(Clone, Copy)]
@@ -13,14 +17,18 @@ pub struct AnswerLine {
     pub value: u32,
 }
 
-fn words(answer: u32) -> &'static [u8]
-    ensures { result.now ≡ words answer }
+// The words of an answer, or None where no answer goes by that number.
+fn words(answer: u32) -> Option<&'static str>
+    ensures known { IsSome result ↔ (answer ≤ 3) }
+    ensures value { IfSome result (λ text. text.now ≡ words answer) }
+    ensures short { IfSome result (λ text. length text.now ≤ 13) }
 {
     match answer {
-        0 => b"done",
-        1 => b"already there",
-        2 => b"not there",
-        _ => b"no room",
+        0 => Some("done"),
+        1 => Some("already there"),
+        2 => Some("not there"),
+        3 => Some("no room"),
+        _ => None,
     }
 }
 
@@ -31,38 +39,36 @@ impl AnswerLine {
         ensures after { buffer.new ≡ written (refused self (length buffer.old)) self buffer.old }
         ensures same { OnOk result (ReadsBack self.value) }
     {
-        self.check(buffer.len())?;
-        Ok(self.put_line(buffer))
-    }
-
-    // Whether the line can be written into so many bytes.
-    fn check(self, room: usize) -> Result<(), Refusal>
-        ensures { result ≡ checked (refused self room) }
-    {
-        if self.runner < 1 || 8 < self.runner {
+        if !(1..=8).contains(&self.runner) {
             return Err(Refusal::NoSuchRunner);
         }
-        if 3 < self.answer {
-            return Err(Refusal::NoSuchAnswer);
-        }
-        if room < 32 {
+        let answer_words = words(self.answer).ok_or(Refusal::NoSuchAnswer)?;
+        if buffer.len() < ROOM {
             return Err(Refusal::ShortBuffer);
         }
-        Ok(())
+        let text = self.text(answer_words);
+        buffer[..text.len()].copy_from_slice(text.as_bytes());
+        Ok(text.len())
     }
 
-    // A line has at most 27 bytes: the words take up to 13 and the value up to 10.
-    fn put_line(self, buffer: &mut [u8]) -> usize
-        requires { refused self (length buffer.old) ≡ None }
-        ensures value { result ≡ length (line self) }
-        ensures after { buffer.new ≡ line self ++ drop (length (line self)) buffer.old }
+    // The text of a line that is not refused. It is pushed, since `write!` never promises success: with it the proof did not close.
+    #[tactic(auto, using(std::proofs::lemmas::Fmt::decimal_is_IsNumeral, std::proofs::lemmas::Fmt::decimal_digit))]
+    fn text(self, answer_words: &str) -> ArrayString<ROOM>
+        requires runner { self.runner ≤ 8 }
+        requires words { answer_words.now ≡ words self.answer }
+        requires short { length answer_words.now ≤ 13 }
+        ensures bytes { result.bytes ≡ line self }
         ensures same { ReadsBack self.value }
     {
-        let mut at = put(buffer, 0, &[b'0' + self.runner as u8, b' ']);
-        at = put(buffer, at, words(self.answer));
-        at = put(buffer, at, b" ");
-        at = put_decimal(buffer, at, self.value);
-        put(buffer, at, b"\n")
+        let mut numeral = Buffer::new();
+        let mut text = ArrayString::new();
+        text.push_str(numeral.format(self.runner as u8));
+        text.push(' ');
+        text.push_str(answer_words);
+        text.push(' ');
+        text.push_str(numeral.format(self.value));
+        text.push('\n');
+        text
     }
 }
 
