@@ -3,7 +3,7 @@ ghost use Rattle.std.specs.Prelude.{◌≡◌};
 ghost use Rattle.commands.specs.Keys.{level_read, place_read, key_read};
 
 use crate::number::number;
-use crate::text::{cut_at, holds, strip};
+use crate::text::{cut_at, holds};
 use keys::place::{Place, PlaceParts};
 use keys::plate::Plate;
 use keys::refusal::Refusal;
@@ -14,7 +14,7 @@ const MOST_PART: u64 = 2147483647;
 fn level(text: &[u8]) -> Option<i32>
     ensures { result ≡ level_read text.now }
 {
-    match strip(text, b'-') {
+    match text.strip_prefix(b"-") {
         Some(below) => Some(-(number(below, MOST_PART)? as i32)),
         None => Some(number(text, MOST_PART)? as i32),
     }
@@ -36,10 +36,10 @@ fn place(text: &[u8]) -> Option<Result<u64, Refusal>>
 pub(crate) fn key(text: &[u8]) -> Option<Result<u64, Refusal>>
     ensures { result ≡ key_read text.now }
 {
-    if let Some(word) = strip(text, b'@') {
+    if let Some(word) = text.strip_prefix(b"@") {
         return Some(Ok(number(word, u64::MAX)?));
     }
-    if text.len() == 0 {
+    if text.is_empty() {
         None
     } else if holds(text, b'/') {
         place(text)

@@ -1,11 +1,11 @@
 // From the text of a line to its command.
-ghost use Rattle.std.specs.Prelude.{◌≡◌, Some};
-ghost use Rattle.commands.specs.Lines.{ending, half_read, whole_read, half_or, backing_read, kind_read, operation_read, memory_line, kind_line, runner_line, begin_line, step_line, collect_line, cut_line, set_line, word_line, bare_line, line_of, line_read};
+ghost use Rattle.std.specs.Prelude.{◌≡◌};
+ghost use Rattle.commands.specs.Lines.{half_read, backing_read, kind_read, operation_read, memory_line, kind_line, runner_line, begin_line, step_line, collect_line, cut_line, set_line, word_line, bare_line, line_of, line_read};
 
 use crate::command::{Backing, Command, Kind};
 use crate::key::key;
 use crate::number::number;
-use crate::text::{cut_word, is, strip};
+use crate::text::Words;
 
 // A number of 32 bits.
 fn half(text: &[u8]) -> Option<u32>
@@ -14,79 +14,49 @@ fn half(text: &[u8]) -> Option<u32>
     Some(number(text, 4294967295)? as u32)
 }
 
-// The same, where it may be left out.
-fn half_or_absent(text: &[u8], absent: u32) -> Option<u32>
-    ensures { result ≡ half_or text.now absent }
-{
-    if text.len() == 0 {
-        Some(absent)
-    } else {
-        half(text)
-    }
-}
-
-// A number of 64 bits.
-fn whole(text: &[u8]) -> Option<u64>
-    ensures { result ≡ whole_read text.now }
-{
-    number(text, u64::MAX)
-}
-
-// Nothing may follow the last word.
-fn end(rest: &[u8]) -> Option<()>
-    ensures { result ≡ ending 0 rest.now (Some tt) }
-{
-    let (word, _) = cut_word(rest);
-    if word.len() == 0 { Some(()) } else { None }
-}
-
 fn backing(text: &[u8]) -> Option<Backing>
     ensures { result ≡ backing_read text.now }
 {
-    if is(text, b"words") {
-        Some(Backing::Words)
-    } else if is(text, b"bytes") {
-        Some(Backing::Bytes)
-    } else {
-        None
+    match text {
+        b"words" => Some(Backing::Words),
+        b"bytes" => Some(Backing::Bytes),
+        _ => None,
     }
 }
 
-fn memory(rest: &[u8]) -> Option<Command>
-    ensures { result ≡ memory_line rest.now }
+fn memory(mut words: Words) -> Option<Command>
+    ensures { result ≡ memory_line words.entry.rest.now }
 {
-    let (made_of, rest) = cut_word(rest);
-    let (size, rest) = cut_word(rest);
-    end(rest)?;
-    Some(Command::Memory(backing(made_of)?, number(size, 1000000)? as usize))
+    let backing = backing(words.next()?)?;
+    let size = number(words.next()?, 1000000)?;
+    words.end()?;
+    Some(Command::Memory(backing, size as usize))
 }
 
 // The number on a line that has no other word.
-fn runner(rest: &[u8]) -> Option<u32>
-    ensures { result ≡ runner_line rest.now }
+fn runner(mut words: Words) -> Option<u32>
+    ensures { result ≡ runner_line words.entry.rest.now }
 {
-    let (word, rest) = cut_word(rest);
-    end(rest)?;
-    half(word)
+    let runner = half(words.next()?)?;
+    words.end()?;
+    Some(runner)
 }
 
-fn kind(rest: &[u8]) -> Option<Command>
-    ensures { result ≡ kind_line rest.now }
+fn kind(mut words: Words) -> Option<Command>
+    ensures { result ≡ kind_line words.entry.rest.now }
 {
-    let (name, rest) = cut_word(rest);
-    end(rest)?;
-    Some(Command::Kind(kind_of(name)?))
+    let kind = kind_of(words.next()?)?;
+    words.end()?;
+    Some(Command::Kind(kind))
 }
 
 fn kind_of(text: &[u8]) -> Option<Kind>
     ensures { result ≡ kind_read text.now }
 {
-    if is(text, b"place") {
-        Some(Kind::Place)
-    } else if is(text, b"plate") {
-        Some(Kind::Plate)
-    } else {
-        None
+    match text {
+        b"place" => Some(Kind::Place),
+        b"plate" => Some(Kind::Plate),
+        _ => None,
     }
 }
 
@@ -94,150 +64,138 @@ fn kind_of(text: &[u8]) -> Option<Kind>
 fn operation(text: &[u8]) -> Option<u32>
     ensures { result ≡ operation_read text.now }
 {
-    if is(text, b"enter") {
-        Some(1)
-    } else if is(text, b"change") {
-        Some(2)
-    } else if is(text, b"remove") {
-        Some(3)
-    } else if is(text, b"look") {
-        Some(4)
-    } else {
-        half(text)
+    match text {
+        b"enter" => Some(1),
+        b"change" => Some(2),
+        b"remove" => Some(3),
+        b"look" => Some(4),
+        _ => half(text),
     }
 }
 
-fn begin(rest: &[u8]) -> Option<Command>
-    ensures { result ≡ begin_line rest.now }
+fn begin(mut words: Words) -> Option<Command>
+    ensures { result ≡ begin_line words.entry.rest.now }
 {
-    let (runner, rest) = cut_word(rest);
-    let (asked, rest) = cut_word(rest);
-    let (key_text, rest) = cut_word(rest);
-    let (value, rest) = cut_word(rest);
-    end(rest)?;
+    let runner = half(words.next()?)?;
+    let operation = operation(words.next()?)?;
+    let key = key(words.next()?)?;
+    let value = words.next().map_or(Some(0), half)?;
+    words.end()?;
     Some(Command::Begin {
-        runner: half(runner)?,
-        operation: operation(asked)?,
-        key: key(key_text)?,
-        value: half_or_absent(value, 0)?,
+        runner,
+        operation,
+        key,
+        value,
     })
 }
 
-fn step(rest: &[u8]) -> Option<Command>
-    ensures { result ≡ step_line rest.now }
+fn step(mut words: Words) -> Option<Command>
+    ensures { result ≡ step_line words.entry.rest.now }
 {
-    let (runner, rest) = cut_word(rest);
-    let (times, rest) = cut_word(rest);
-    end(rest)?;
-    Some(Command::Step {
-        runner: half(runner)?,
-        times: half_or_absent(times, 1)?,
-    })
+    let runner = half(words.next()?)?;
+    let times = words.next().map_or(Some(1), half)?;
+    words.end()?;
+    Some(Command::Step { runner, times })
 }
 
 // A runner that can be collected has one digit: what stands before it are zeros.
-fn collect(rest: &[u8]) -> Option<Command>
-    ensures { result ≡ collect_line rest.now }
+fn collect(mut words: Words) -> Option<Command>
+    ensures { result ≡ collect_line words.entry.rest.now }
 {
-    let (word, rest) = cut_word(rest);
-    end(rest)?;
+    let word = words.next()?;
+    words.end()?;
     Some(Command::Collect {
         runner: half(word)?,
-        zeros: word.len().saturating_sub(1),
+        zeros: word.len() - 1,
     })
 }
 
-fn cut(rest: &[u8]) -> Option<Command>
-    ensures { result ≡ cut_line rest.now }
+fn cut(mut words: Words) -> Option<Command>
+    ensures { result ≡ cut_line words.entry.rest.now }
 {
-    let (when, rest) = cut_word(rest);
-    if when.len() == 0 {
+    let Some(when) = words.next() else {
         return Some(Command::Cut);
-    }
-    let (word, rest) = cut_word(rest);
-    end(rest)?;
-    let runner = half(word)?;
-    if is(when, b"before") {
-        Some(Command::Cut)
-    } else if is(when, b"after") {
-        Some(Command::CutAfter(runner))
-    } else {
-        None
+    };
+    let runner = half(words.next()?)?;
+    words.end()?;
+    match when {
+        b"before" => Some(Command::Cut),
+        b"after" => Some(Command::CutAfter(runner)),
+        _ => None,
     }
 }
 
-fn set(rest: &[u8]) -> Option<Command>
-    ensures { result ≡ set_line rest.now }
+fn set(mut words: Words) -> Option<Command>
+    ensures { result ≡ set_line words.entry.rest.now }
 {
-    let (at, rest) = cut_word(rest);
-    let (word, rest) = cut_word(rest);
-    end(rest)?;
-    Some(Command::Set {
-        at: whole(at)? as usize,
-        word: whole(word)?,
-    })
+    let at = number(words.next()?, u64::MAX)? as usize;
+    let word = number(words.next()?, u64::MAX)?;
+    words.end()?;
+    Some(Command::Set { at, word })
 }
 
-fn word(rest: &[u8]) -> Option<Command>
-    ensures { result ≡ word_line rest.now }
+fn word(mut words: Words) -> Option<Command>
+    ensures { result ≡ word_line words.entry.rest.now }
 {
-    let (at, rest) = cut_word(rest);
-    end(rest)?;
-    Some(Command::Word(whole(at)? as usize))
+    let at = number(words.next()?, u64::MAX)? as usize;
+    words.end()?;
+    Some(Command::Word(at))
 }
 
 // Lines of one word.
-fn bare(name: &[u8], rest: &[u8]) -> Option<Command>
-    ensures { result ≡ bare_line name.now rest.now }
+fn bare(name: &[u8], words: Words) -> Option<Command>
+    ensures { result ≡ bare_line name.now words.entry.rest.now }
 {
-    end(rest)?;
-    if is(name, b"pairs") {
-        Some(Command::Pairs)
-    } else if is(name, b"show") {
-        Some(Command::Show)
-    } else {
-        None
+    words.end()?;
+    match name {
+        b"pairs" => Some(Command::Pairs),
+        b"show" => Some(Command::Show),
+        _ => None,
     }
 }
 
-// What a line asks for, by its first word.
-fn command_of(name: &[u8], rest: &[u8]) -> Option<Command>
-    ensures { result ≡ line_of name.now rest.now }
+// What a line asks for, by its first word. Tried as a `match` on the word: its proof did not close, since the last arm is reached in fifty ways.
+fn command_of(name: &[u8], words: Words) -> Option<Command>
+    ensures { result ≡ line_of name.now words.entry.rest.now }
 {
-    if is(name, b"memory") {
-        memory(rest)
-    } else if is(name, b"kind") {
-        kind(rest)
-    } else if is(name, b"make") {
-        Some(Command::Make(runner(rest)?))
-    } else if is(name, b"rebuild") {
-        Some(Command::Rebuild(runner(rest)?))
-    } else if is(name, b"begin") {
-        begin(rest)
-    } else if is(name, b"step") {
-        step(rest)
-    } else if is(name, b"finish") {
-        Some(Command::Finish(runner(rest)?))
-    } else if is(name, b"collect") {
-        collect(rest)
-    } else if is(name, b"cut") {
-        cut(rest)
-    } else if is(name, b"set") {
-        set(rest)
-    } else if is(name, b"word") {
-        word(rest)
+    if name == b"memory".as_slice() {
+        memory(words)
+    } else if name == b"kind".as_slice() {
+        kind(words)
+    } else if name == b"make".as_slice() {
+        runner(words).map(Command::Make)
+    } else if name == b"rebuild".as_slice() {
+        runner(words).map(Command::Rebuild)
+    } else if name == b"begin".as_slice() {
+        begin(words)
+    } else if name == b"step".as_slice() {
+        step(words)
+    } else if name == b"finish".as_slice() {
+        runner(words).map(Command::Finish)
+    } else if name == b"collect".as_slice() {
+        collect(words)
+    } else if name == b"cut".as_slice() {
+        cut(words)
+    } else if name == b"set".as_slice() {
+        set(words)
+    } else if name == b"word".as_slice() {
+        word(words)
     } else {
-        bare(name, rest)
+        bare(name, words)
     }
 }
 
 // The command of a line, if it can be read.
+#[tactic(auto, unfolding(crate::specs::Lines::line_read))]
 pub(crate) fn parse(line: &[u8]) -> Option<Command>
     ensures { result ≡ line_read line.now }
 {
-    let (name, rest) = cut_word(line);
-    if name.len() == 0 || strip(line, b'#').is_some() {
+    if line.starts_with(b"#") {
         return Some(Command::Nothing);
     }
-    command_of(name, rest)
+    let mut words = Words::of(line);
+    match words.next() {
+        Some(name) => command_of(name, words),
+        None => Some(Command::Nothing),
+    }
 }

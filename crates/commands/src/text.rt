@@ -1,16 +1,8 @@
 // How a script is cut into lines, and a line into words.
-ghost use Rattle.std.specs.Prelude.{◌≡◌, ◌≤◌, length};
-ghost use Rattle.std.specs.Option.{option_map};
-ghost use Rattle.std.specs.Str.{bytes_eq};
-ghost use Rattle.commands.specs.Texts.{blank, stops, span as span_length, first_word, after_word, holds_byte, before_byte, after_byte, stripped};
-
-// What a span of bytes ends before.
-#[derive(Clone, Copy)]
-enum Stop {
-    Blank,
-    Letter,
-    Byte(u8),
-}
+ghost use Rattle.std.specs.Prelude.{◌≡◌, ◌==◌, ◌≤◌, not, length, Some, position};
+ghost use Rattle.std.specs.List.{prefix_len};
+ghost use Rattle.commands.specs.Lines.{ending};
+ghost use Rattle.commands.specs.Texts.{blank, span, holds_byte, before_byte, after_byte, GivesWord};
 
 fn is_blank(b: u8) -> bool
     ensures { result ≡ blank b }
@@ -18,38 +10,68 @@ fn is_blank(b: u8) -> bool
     b == b' ' || (b'\t' <= b && b <= b'\r')
 }
 
-impl Stop {
-    fn is_at(self, b: u8) -> bool
-        ensures { result ≡ stops self b }
-    {
-        match self {
-            Stop::Blank => is_blank(b),
-            Stop::Letter => !is_blank(b),
-            Stop::Byte(x) => b == x,
-        }
-    }
-}
-
-// How many bytes stand before the stop.
-fn span(text: &[u8], stop: Stop) -> usize
-    ensures value { result ≡ span_length stop text.now }
+// How many blanks stand at the front. Each count and each search has a function of its own: tried inside the callers, their proofs did not close.
+fn blanks(text: &[u8]) -> usize
+    ensures value { result ≡ prefix_len blank text.now }
     ensures bound { result ≤ length text.now }
 {
-    for (i, b) in text.iter().enumerate() {
-        if stop.is_at(*b) {
-            return i;
-        }
-    }
-    text.len()
+    text.iter().take_while(|b| is_blank(**b)).count()
 }
 
-// The first word, empty if there is none, and what stands after it.
-pub(crate) fn cut_word(text: &[u8]) -> (&[u8], &[u8])
-    ensures front { result.0.now ≡ first_word text.now }
-    ensures back { result.1.now ≡ after_word text.now }
+// How many other bytes stand at the front.
+fn letters(text: &[u8]) -> usize
+    ensures value { result ≡ span blank text.now }
+    ensures bound { result ≤ length text.now }
 {
-    let trimmed = &text[span(text, Stop::Letter)..];
-    trimmed.split_at(span(trimmed, Stop::Blank))
+    text.iter().take_while(|b| !is_blank(**b)).count()
+}
+
+// The words of what is left of a line.
+#[derive(Drop)]
+pub(crate) struct Words<'a> {
+    rest: &'a [u8],
+}
+
+impl<'a> Words<'a> {
+    pub(crate) fn of(line: &'a [u8]) -> Words<'a>
+        ensures { result.rest.now ≡ line.now }
+    {
+        Words { rest: line }
+    }
+
+    // Nothing may follow the last word.
+    pub(crate) fn end(mut self) -> Option<()>
+        ensures { result ≡ ending 0 self.entry.rest.now (Some tt) }
+    {
+        match self.next() {
+            Some(_) => None,
+            None => Some(()),
+        }
+    }
+}
+
+impl<'a> Iterator for Words<'a> {
+    ghost use Rattle.std.specs.Iterator.{at_most};
+
+    type Item = &'a [u8];
+
+    ghost next_gives = { λ s r t. GivesWord s.rest.now r t.rest.now };
+
+    ghost remaining = { λ s. at_most (length s.rest.now) };
+
+    fn next(&mut self) -> Option<&'a [u8]> {
+        let trimmed = &self.rest[blanks(self.rest)..];
+        let (word, rest) = trimmed.split_at(letters(trimmed));
+        self.rest = rest;
+        if word.is_empty() { None } else { Some(word) }
+    }
+}
+
+// Where the first such byte stands.
+fn find(text: &[u8], byte: u8) -> Option<usize>
+    ensures { result ≡ position (λ b. b == byte) text.now }
+{
+    text.iter().position(|b| *b == byte)
 }
 
 // What stands before the first such byte, and what after it: all and nothing if there is none.
@@ -57,11 +79,9 @@ pub(crate) fn cut_at(text: &[u8], byte: u8) -> (&[u8], &[u8])
     ensures front { result.0.now ≡ before_byte byte text.now }
     ensures back { result.1.now ≡ after_byte byte text.now }
 {
-    let n = span(text, Stop::Byte(byte));
-    if n < text.len() {
-        (&text[0..n], &text[n + 1..])
-    } else {
-        (text, &[])
+    match find(text, byte) {
+        Some(n) => (&text[..n], &text[n + 1..]),
+        None => (text, &[]),
     }
 }
 
@@ -69,23 +89,5 @@ pub(crate) fn cut_at(text: &[u8], byte: u8) -> (&[u8], &[u8])
 pub(crate) fn holds(text: &[u8], byte: u8) -> bool
     ensures { result ≡ holds_byte byte text.now }
 {
-    span(text, Stop::Byte(byte)) < text.len()
-}
-
-// What stands after the first byte, if it is this one.
-pub(crate) fn strip(text: &[u8], byte: u8) -> Option<&[u8]>
-    ensures { option_map (λ x. x.now) result ≡ stripped byte text.now }
-{
-    if 0 < text.len() && text[0] == byte {
-        Some(&text[1..])
-    } else {
-        None
-    }
-}
-
-// Whether the text is this word.
-pub(crate) fn is(text: &[u8], word: &[u8]) -> bool
-    ensures { result ≡ bytes_eq text.now word.now }
-{
-    text == word
+    find(text, byte).is_some()
 }
