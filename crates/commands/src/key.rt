@@ -8,7 +8,7 @@ use keys::place::{Place, PlaceParts};
 use keys::plate::Plate;
 use keys::refusal::Refusal;
 
-const MOST_PART: u64 = 2147483647;
+const MOST_PART: u64 = i32::MAX as u64;
 
 // A level, with or without a minus.
 fn level(text: &[u8]) -> Option<i32>
@@ -37,7 +37,7 @@ pub(crate) fn key(text: &[u8]) -> Option<Result<u64, Refusal>>
     ensures { result ≡ key_read text.now }
 {
     if let Some(word) = text.strip_prefix(b"@") {
-        return Some(Ok(number(word, u64::MAX)?));
+        return number(word, u64::MAX).map(Ok);
     }
     if text.is_empty() {
         None

@@ -1,24 +1,23 @@
 // Numbers as a script writes them: decimal digits, and no sign.
 ghost use Rattle.std.specs.Prelude.{◌≡◌};
+ghost use Rattle.std.specs.Char.{is_ascii_digit};
+ghost use Rattle.std.specs.List.{list_all};
 ghost use Rattle.commands.specs.Numbers.{number_read};
+
+// `parse` would take a plus before the digits. Tried inside `number`, whose proof then did not close.
+fn is_digits(text: &[u8]) -> bool
+    ensures { result ≡ list_all is_ascii_digit text.now }
+{
+    text.iter().all(|b| b.is_ascii_digit())
+}
 
 // The number that a text says, if it is one and at most `most`.
 pub(crate) fn number(text: &[u8], most: u64) -> Option<u64>
     ensures { result ≡ number_read text.now most }
 {
-    if text.len() == 0 {
+    if !is_digits(text) {
         return None;
     }
-    let mut value = 0;
-    for b in text {
-        if !b.is_ascii_digit() {
-            return None;
-        }
-        let digit = u64::from(*b - b'0');
-        if most < digit || (most - digit) / 10 < value {
-            return None;
-        }
-        value = 10 * value + digit;
-    }
-    Some(value)
+    let value = str::from_utf8(text).ok()?.parse::<u64>().ok()?;
+    if value <= most { Some(value) } else { None }
 }

@@ -11,7 +11,7 @@ use crate::text::Words;
 fn half(text: &[u8]) -> Option<u32>
     ensures { result ≡ half_read text.now }
 {
-    Some(number(text, 4294967295)? as u32)
+    Some(number(text, u64::from(u32::MAX))? as u32)
 }
 
 fn backing(text: &[u8]) -> Option<Backing>

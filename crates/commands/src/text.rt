@@ -7,7 +7,7 @@ ghost use Rattle.commands.specs.Texts.{blank, span, holds_byte, before_byte, aft
 fn is_blank(b: u8) -> bool
     ensures { result ≡ blank b }
 {
-    b == b' ' || (b'\t' <= b && b <= b'\r')
+    matches!(b, b' ' | b'\t'..=b'\r')
 }
 
 // How many blanks stand at the front. Each count and each search has a function of its own: tried inside the callers, their proofs did not close.

@@ -1,6 +1,0 @@
-use Rattle.std.proofs.Common.{◌≤◌}
-use Rattle.commands.proofs.Numerals.{Left}
-use Rattle.commands.proofs.number.number.Given as goal
-
-abbrev pub invariant-loop-b : goal.invariant-loop-b
-invariant-loop-b l = Left l.text l.b-index l.value × (l.value ≤ l.most)
