@@ -1,7 +1,5 @@
 // The commands of a script, line by line.
-ghost use Rattle.std.specs.Prelude.{◌≡◌};
-ghost use Rattle.commands.specs.Reading.{line_after, command_of, next_command, next_line, ReadOn};
-ghost use Rattle.commands.specs.Texts.{after_byte};
+ghost use Rattle.std.specs.Prelude.{◌≡◌, length};
 
 use crate::command::Command;
 use crate::parse::parse;
@@ -12,22 +10,6 @@ use crate::text::cut_at;
 pub struct Reader<'a> {
     rest: &'a [u8],
     line: u64,
-}
-
-// A line that cannot be read is told by its number.
-fn told(line: u64, read: Option<Command>) -> Command
-    ensures { result ≡ command_of line read }
-{
-    match read {
-        Some(command) => command,
-        None => Command::Unreadable(line),
-    }
-}
-
-fn line_after(line: u64) -> u64
-    ensures { result ≡ line_after line }
-{
-    if line < u64::MAX { line + 1 } else { line }
 }
 
 impl<'a> Reader<'a> {
@@ -46,19 +28,28 @@ impl<'a> Reader<'a> {
     {
         self.line
     }
+}
 
-    // The command of the next line, if there is one.
-    pub fn next(&mut self) -> Option<Command>
-        ensures value { result ≡ next_command self.old.rest.now self.old.line }
-        ensures after { (self.new.rest.now ≡ after_byte 10 self.old.rest.now) × (self.new.line ≡ next_line self.old.rest.now self.old.line) }
-        ensures bound { ReadOn self.old.rest.now self.new.rest.now result }
-    {
-        if self.rest.len() == 0 {
+impl<'a> Iterator for Reader<'a> {
+    ghost use Rattle.std.specs.Iterator.{at_most};
+    ghost use Rattle.commands.specs.Reading.{ReadsLine};
+
+    type Item = Command;
+
+    // Not as clauses on `next`: tried, and a loop over the lines then got no proof.
+    ghost next_gives = { λ s r t. ReadsLine s.rest.now s.line r t.rest.now t.line };
+
+    // Each line takes a byte at least.
+    ghost remaining = { λ s. at_most (length s.rest.now) };
+
+    // The command of the next line, if there is one. A line that cannot be read is told by its number.
+    fn next(&mut self) -> Option<Command> {
+        if self.rest.is_empty() {
             return None;
         }
         let (line, rest) = cut_at(self.rest, b'\n');
         self.rest = rest;
-        self.line = line_after(self.line);
-        Some(told(self.line, parse(line)))
+        self.line = self.line.saturating_add(1);
+        Some(parse(line).unwrap_or(Command::Unreadable(self.line)))
     }
 }
