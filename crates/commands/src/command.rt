@@ -2,20 +2,20 @@
 use keys::refusal::Refusal;
 
 // What a memory is made of.
-#[derive(Clone, Copy)]
+#[derive(Clone, Copy, PartialEq, Eq, Debug)]
 pub enum Backing {
     Words,
     Bytes,
 }
 
 // The kinds of keys.
-#[derive(Clone, Copy)]
+#[derive(Clone, Copy, PartialEq, Eq, Debug)]
 pub enum Kind {
     Place,
     Plate,
 }
 
-#[derive(Clone, Copy)]
+#[derive(Clone, Copy, PartialEq, Eq, Debug)]
 pub enum Command {
     // a blank line or a comment
     Nothing,
@@ -24,7 +24,7 @@ pub enum Command {
     Kind(Kind),
     Make(u32),
     Rebuild(u32),
-    // `key` is the key, or why it cannot be made
+    // `key` is the key, or why it cannot be made. `operation` is a number and no enum: a script may ask for any, and the book refuses with 12 what is none
     Begin {
         runner: u32,
         operation: u32,

@@ -12,6 +12,7 @@ fn is_digits(text: &[u8]) -> bool
 }
 
 // The number that a text says, if it is one and at most `most`.
+#[tactic(auto, using(crate::proofs::Numerals::each_digit, crate::proofs::Numerals::digits_are_utf8, crate::proofs::Numerals::not_read))]
 pub(crate) fn number(text: &[u8], most: u64) -> Option<u64>
     ensures { result ≡ number_read text.now most }
 {

@@ -14,6 +14,7 @@ fn half(text: &[u8]) -> Option<u32>
     Some(number(text, u64::from(u32::MAX))? as u32)
 }
 
+// An Option, here and in `kind_of`: a `TryFrom` would need an error, and there is nothing to tell.
 fn backing(text: &[u8]) -> Option<Backing>
     ensures { result ≡ backing_read text.now }
 {

@@ -59,8 +59,9 @@ impl<'a> Iterator for Words<'a> {
 
     ghost remaining = { λ s. at_most (length s.rest.now) };
 
+    #[tactic(auto, unfolding(crate::specs::Texts::first_word, crate::specs::Texts::after_word))]
     fn next(&mut self) -> Option<&'a [u8]> {
-        let trimmed = &self.rest[blanks(self.rest)..];
+        let (_, trimmed) = self.rest.split_at(blanks(self.rest));
         let (word, rest) = trimmed.split_at(letters(trimmed));
         self.rest = rest;
         if word.is_empty() { None } else { Some(word) }
