@@ -1,7 +1,7 @@
 -- How a script is cut into lines, and a line into words.
-use Rattle.std.specs.Prelude.{◌≡◌, ◌<◌, [], MatchOption, ℕ, zero, suc, ◌+◌, Bool, cond, ◌&&◌, ◌||◌, List, length, take, drop, Some, None, Option, ◌==◌, nat_le, nat_lt, slice_index}
+use Rattle.std.specs.Prelude.{◌≡◌, ◌<◌, [], MatchOption, ℕ, zero, suc, ◌+◌, Bool, cond, not, ◌&&◌, ◌||◌, List, length, take, drop, Some, None, Option, ◌==◌, nat_le, nat_lt, slice_index}
 use denote.Ref.{Bor}
-use Rattle.std.specs.List.{prefix_len, position_or_len}
+use Rattle.std.specs.List.{position_or_len}
 
 -- A blank is a space or one of the bytes from tab to carriage return.
 abbrev pub blank : ℕ → Bool
@@ -13,7 +13,7 @@ span stop text = position_or_len stop text
 
 -- The text from its first word on.
 abbrev pub trimmed : List ℕ → List ℕ
-trimmed text = drop (prefix_len blank text) text
+trimmed text = drop (span (λ b. not (blank b)) text) text
 
 -- A word reaches up to the next blank or to the end. In a text of blanks it is empty.
 unfoldable pub first_word : List ℕ → List ℕ

@@ -7,6 +7,9 @@ use crate::key::key;
 use crate::number::number;
 use crate::text::Words;
 
+// How large a memory may be, in words or bytes.
+const MOST_SIZE: u64 = 1_000_000;
+
 // A number of 32 bits.
 fn half(text: &[u8]) -> Option<u32>
     ensures { result ≡ half_read text.now }
@@ -29,7 +32,7 @@ fn memory(mut words: Words) -> Option<Command>
     ensures { result ≡ memory_line words.entry.rest.now }
 {
     let backing = backing(words.next()?)?;
-    let size = number(words.next()?, 1000000)?;
+    let size = number(words.next()?, MOST_SIZE)?;
     words.end()?;
     Some(Command::Memory(backing, size as usize))
 }
@@ -155,7 +158,7 @@ fn bare(name: &[u8], words: Words) -> Option<Command>
     }
 }
 
-// What a line asks for, by its first word. Tried as a `match` on the word: its proof did not close, since the last arm is reached in fifty ways.
+// What a line asks for, by its first word. Tried as a `match`: its proof did not close, since the last arm is reached in fifty ways.
 fn command_of(name: &[u8], words: Words) -> Option<Command>
     ensures { result ≡ line_of name.now words.entry.rest.now }
 {

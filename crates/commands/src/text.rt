@@ -1,6 +1,5 @@
 // How a script is cut into lines, and a line into words.
 ghost use Rattle.std.specs.Prelude.{◌≡◌, ◌==◌, ◌≤◌, not, length, Some, position};
-ghost use Rattle.std.specs.List.{prefix_len};
 ghost use Rattle.commands.specs.Lines.{ending};
 ghost use Rattle.commands.specs.Texts.{blank, span, holds_byte, before_byte, after_byte, GivesWord};
 
@@ -12,7 +11,7 @@ fn is_blank(b: u8) -> bool
 
 // How many blanks stand at the front. Each count and each search has a function of its own: tried inside the callers, their proofs did not close.
 fn blanks(text: &[u8]) -> usize
-    ensures value { result ≡ prefix_len blank text.now }
+    ensures value { result ≡ span (λ b. not (blank b)) text.now }
     ensures bound { result ≤ length text.now }
 {
     text.iter().take_while(|b| is_blank(**b)).count()
