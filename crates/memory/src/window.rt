@@ -1,7 +1,7 @@
 // A window: the `size` words from word `base` on of another kept memory, as a kept memory of its own, numbered from 0.
 // No call through a window touches a word outside it. A window that does not fit has no words.
 // On store and swap the clause `around` gives the whole row of the memory below.
-ghost use Rattle.std.specs.Prelude.{◌≡◌, ℕ, ◌+◌, ◌^◌, ◌<◌, true, List, length};
+ghost use Rattle.std.specs.Prelude.{◌≡◌, ℕ, ◌+◌, ◌^◌, ◌<◌, true, cond, nat_lt, List, length, Ok, Err, IfOk};
 ghost use Rattle.memory.specs.Row.{stored, swapped, row_stored, row_swapped};
 ghost use Rattle.memory.specs.Seen.{fits_in, fitting, seen, size_seen, SameWord, shown, beside_shown, below_stored, below_swapped, CutThroughWindow};
 
@@ -51,6 +51,7 @@ impl<M: KeptMemory> Window<M> {
     }
 
     // How many words are seen: all of the window's, or none where it does not fit.
+    #[tactic(auto, using(crate::proofs::Seen::length_seen))]
     fn len(&self) -> usize
         ensures value { result ≡ size_seen (M.words self.now.memory) self.now.base self.now.size }
         ensures room { 0 < result → self.now.base + result < 2 ^ 64 }
@@ -59,14 +60,16 @@ impl<M: KeptMemory> Window<M> {
         if self.is_within() { self.size } else { 0 }
     }
 
-    // The number that the window's word `i`, which is there, has in the memory below.
-    fn place(&self, i: usize) -> usize
-        requires there { i < size_seen (M.words self.now.memory) self.now.base self.now.size }
-        requires room { self.now.base + i < 2 ^ 64 }
-        ensures value { result ≡ self.now.base + i }
-        ensures same { SameWord (M.words self.now.memory) self.now.base self.now.size i result }
+    // The number that the window's word `i` has in the memory below; refused where the window shows no such word.
+    fn place(&self, i: usize) -> Result<usize, Refusal>
+        ensures value { result ≡ cond (nat_lt i (size_seen (M.words self.now.memory) self.now.base self.now.size)) (Ok (self.now.base + i)) (Err Refusal.NoSuchWord) }
+        ensures same { IfOk result (SameWord (M.words self.now.memory) self.now.base self.now.size i) }
     {
-        self.base + i
+        if i < self.len() {
+            Ok(self.base + i)
+        } else {
+            Err(Refusal::NoSuchWord)
+        }
     }
 }
 
@@ -84,10 +87,7 @@ impl<M: KeptMemory> KeptMemory for Window<M> {
     }
 
     fn load(&self, i: usize) -> Result<u64, Refusal> {
-        if i >= self.len() {
-            return Err(Refusal::NoSuchWord);
-        }
-        let place = self.place(i);
+        let place = self.place(i)?;
         self.memory.load(place)
     }
 
@@ -97,10 +97,7 @@ impl<M: KeptMemory> KeptMemory for Window<M> {
         ensures beside { beside_shown M.words M.rest self.new ≡ beside_shown M.words M.rest self.old }
         ensures around { M.words self.new.memory ≡ below_stored (M.words self.old.memory) self.old.base self.old.size i w }
     {
-        if i >= self.len() {
-            return Err(Refusal::NoSuchWord);
-        }
-        let place = self.place(i);
+        let place = self.place(i)?;
         self.memory.store(place, w)
     }
 
@@ -110,10 +107,7 @@ impl<M: KeptMemory> KeptMemory for Window<M> {
         ensures beside { beside_shown M.words M.rest self.new ≡ beside_shown M.words M.rest self.old }
         ensures around { M.words self.new.memory ≡ below_swapped (M.words self.old.memory) self.old.base self.old.size i expected new }
     {
-        if i >= self.len() {
-            return Err(Refusal::NoSuchWord);
-        }
-        let place = self.place(i);
+        let place = self.place(i)?;
         self.memory.swap(place, expected, new)
     }
 }

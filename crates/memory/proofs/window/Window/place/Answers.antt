@@ -1,8 +1,6 @@
-use Rattle.std.proofs.Common.{refl}
+use Rattle.std.proofs.Common.{rules}
 use Rattle.memory.proofs.Seen.{same_word}
 use Rattle.memory.proofs.window.Window.place.Goals as goal
 
-pub returns : goal.returns
-returns g c =
-    let s = c.args.self.now in
-    record { value = refl; same = same_word (g.M.KeptMemory.words s.memory) s.base s.size c.args.i c.requires.there }
+pub returns-then-i-len-clause-same : goal.returns-then-i-len-clause-same
+returns-then-i-len-clause-same g c = search (rules, same_word)
