@@ -5,10 +5,13 @@
 // is that of a word number not below the count.
 //
 // The row outlives a power cut. Calls that have ended stand, and what a cut inside a call may leave is defined in specs/Cut.antt.
-ghost use Rattle.std.specs.Prelude.{◌≡◌, ℕ, List, length};
+ghost use Rattle.std.specs.Prelude.{◌≡◌, ◌++◌, ℕ, List, length, codes, decimal, Some};
 ghost use Rattle.memory.specs.Refusals.{refusal_number};
 ghost use Rattle.memory.specs.Row.{loaded, stored, swapped, row_stored, row_swapped};
 ghost use Rattle.memory.specs.Cut.{CutTouchesOneWord};
+
+use std::error::Error;
+use std::fmt;
 
 // Why a call is sent back. A call that is sent back changes nothing.
 #[derive(Clone, Copy, PartialEq, Eq, Debug)]
@@ -26,6 +29,17 @@ impl Refusal {
         self as u8
     }
 }
+
+impl fmt::Display for Refusal {
+    ghost output = { λ r. Some (codes "refused " ++ decimal (refusal_number r)) };
+
+    fn fmt<W: fmt::Write>(&self, f: &mut fmt::Formatter<W>) -> fmt::Result {
+        let number = self.number();
+        write!(f, "refused {number}")
+    }
+}
+
+impl Error for Refusal {}
 
 pub trait KeptMemory {
     // The row.

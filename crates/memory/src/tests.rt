@@ -91,7 +91,10 @@ fn window(rt: HostRuntime) -> Result<(), Fail> {
 }
 
 #[test]
-fn refusals(rt: HostRuntime) {
+fn refusals(rt: HostRuntime) -> Result<(), Fail> {
     assert_eq!(rt; Refusal::NoSuchWord.number(), 20);
     assert_eq!(rt; Refusal::NoSuchWindow.number(), 21);
+    let shown = format!(in rt.alloc(); "{}", Refusal::NoSuchWindow)?;
+    assert_eq!(rt; shown.as_str(), "refused 21");
+    Ok(())
 }
