@@ -61,6 +61,7 @@ impl<M: KeptMemory> Window<M> {
     }
 
     // The number that the window's word `i` has in the memory below; refused where the window shows no such word.
+    #[tactic(auto, using(crate::proofs::Seen::words_seen))]
     fn place(&self, i: usize) -> Result<usize, Refusal>
         ensures value { result ≡ cond (nat_lt i (size_seen (M.words self.now.memory) self.now.base self.now.size)) (Ok (self.now.base + i)) (Err Refusal.NoSuchWord) }
         ensures same { IfOk result (SameWord (M.words self.now.memory) self.now.base self.now.size i) }
@@ -113,6 +114,7 @@ impl<M: KeptMemory> KeptMemory for Window<M> {
 }
 
 // Does nothing: its contract is the law that a window keeps the promise on cuts where the memory below does.
+#[tactic(auto, using(crate::proofs::Seen::words_seen))]
 pub fn cut_through_window()
     ensures { CutThroughWindow }
 {}
