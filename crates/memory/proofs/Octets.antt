@@ -1,5 +1,5 @@
 -- Words in bytes: which eight bytes a word is, and what a write of eight bytes does to the row.
-use Rattle.std.proofs.Common.{◌≡◌, ℕ, zero, suc, ◌+◌, ◌-◌, ◌*◌, ◌/◌, ◌^◌, ◌<◌, ◌≤◌, ◌≢◌, List, [], length, get_or, take, drop, set, refl, ap, ◌∙◌, ⊎_elim, add-zero, arith, rules}
+use Rattle.std.proofs.Common.{◌≡◌, ℕ, zero, suc, ◌+◌, ◌-◌, ◌*◌, ◌/◌, ◌^◌, ◌<◌, ◌≤◌, ◌≢◌, List, [], length, get_or, take, drop, set, refl, ◌∙◌, arith}
 use Rattle.std.specs.Simd.{first_chunks}
 use native.Mathlib.Numerals.{unary_clauses}
 use borrow.Rule.Slice.PartMut.{put_mid}
@@ -19,21 +19,19 @@ get_or_words bs i d h = get_or-map-range_with_len (λ k. word_at bs (8 * k)) 0 (
 
 -- words of the same eight bytes are the same
 same_bytes : (xs ys : List ℕ) (p q : ℕ) → ((j : ℕ) → j < 8 → get_or xs (p + j) 0 ≡ get_or ys (q + j) 0) → word_at xs p ≡ word_at ys q
-same_bytes xs ys p q h =
-    rw (simp add-zero at (h 0 (omega arith)), h 1 (omega arith), h 2 (omega arith), h 3 (omega arith), h 4 (omega arith), h 5 (omega arith), h 6 (omega arith), h 7 (omega arith))
+same_bytes xs ys p q h = grind (arith, h 0, h 1, h 2, h 3, h 4, h 5, h 6, h 7)
 
 get_or-first_chunks : (n k i : ℕ) (xs : List ℕ) → i < k → get_or (first_chunks n k xs) i [] ≡ take n (drop (n * i) xs)
 get_or-first_chunks n zero i xs h = absurd (omega arith)
 get_or-first_chunks n (suc k) zero xs h = simp unary_clauses refl
 get_or-first_chunks n (suc k) (suc i) xs h =
-    let m : n + n * i ≡ n * suc i = omega arith in
-    get_or-first_chunks n k i (drop n xs) (omega arith) ∙ ap (take n) (drop-drop (n * i) n xs) ∙ ap (λ x. take n (drop x xs)) m
+    grind (arith, get_or-first_chunks n k i (drop n xs), drop-drop (n * i) n xs)
 
 -- a word is its chunk of eight bytes
 pub word_of_chunk : (bs : List ℕ) (i : ℕ) → i < length (words_of bs) → get_or (words_of bs) i 0 ≡ word_at (get_or (first_chunks 8 (length bs / 8) bs) i []) 0
 word_of_chunk bs i h =
     let t : i < length bs / 8 = omega (arith, length_words bs) in
-    rw (get_or_words bs i 0 t, get_or-first_chunks 8 (length bs / 8) i bs t) (same_bytes bs (take 8 (drop (8 * i) bs)) (8 * i) 0 (λ j q. search (rules, places)))
+    rw (get_or_words bs i 0 t, get_or-first_chunks 8 (length bs / 8) i bs t) (same_bytes bs (take 8 (drop (8 * i) bs)) (8 * i) 0 (λ j q. grind (arith, places)))
 
 module _ (bs : List ℕ) (i w : ℕ) (ys : List ℕ) (h : i < length (words_of bs)) (f : w < 2 ^ 64) (e : ys ≡ octets w) where
   abbrev written : List ℕ
@@ -46,20 +44,15 @@ module _ (bs : List ℕ) (i w : ℕ) (ys : List ℕ) (h : i < length (words_of b
   eight = rw e
 
   length_written : length written ≡ length bs
-  length_written = let r = room in let l = eight in search (rules, places)
+  length_written = grind (arith, places, room, eight)
 
   word_written : word_at written (8 * i) ≡ w
   word_written =
-      let r = room in
-      let l = eight in
       let made : word_at (octets w) 0 ≡ w = omega arith in
-      same_bytes written ys (8 * i) 0 (λ j q. search (rules, places)) ∙ rw e made
+      same_bytes written ys (8 * i) 0 (λ j q. grind (arith, places, room, eight)) ∙ rw e made
 
   word_kept : (k : ℕ) → k ≢ i → word_at written (8 * k) ≡ word_at bs (8 * k)
-  word_kept k n =
-      let r = room in
-      let l = eight in
-      same_bytes written bs (8 * k) (8 * k) (λ j q. ⊎_elim (λ t. search (rules, places)) (λ t. search (rules, places)) (cases_lt k i))
+  word_kept k n = same_bytes written bs (8 * k) (8 * k) (λ j q. grind (arith, places, room, eight, cases_lt k i))
 
   pub words_put : words_of written ≡ set (words_of bs) i w
   words_put =
@@ -68,10 +61,7 @@ module _ (bs : List ℕ) (i w : ℕ) (ys : List ℕ) (h : i < length (words_of b
       (λ k d q. grind (arith, length_words, get_or_words, length_written, word_written, word_kept, get_or-set_same, get_or-set_other, cases_eq k i))
 
   pub leftover_put : leftover written ≡ leftover bs
-  leftover_put =
-      let r = room in
-      let l = eight in
-      rw length_written (drop-put_mid (8 * i) (8 * i + 8 - 8 * i) bs ys (8 * (length bs / 8)) (omega arith) (omega arith) (omega arith))
+  leftover_put = grind (arith, length_written, drop-put_mid, room, eight)
 
 -- what the row in a slice of bytes is proved with
 pub ruleset words_in_bytes = (length_words, word_of_chunk, words_put, leftover_put)

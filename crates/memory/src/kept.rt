@@ -34,8 +34,7 @@ impl fmt::Display for Refusal {
     ghost output = { λ r. Some (codes "refused " ++ decimal (refusal_number r)) };
 
     fn fmt<W: fmt::Write>(&self, f: &mut fmt::Formatter<W>) -> fmt::Result {
-        let number = self.number();
-        write!(f, "refused {number}")
+        write!(f, "refused {}", self.number())
     }
 }
 

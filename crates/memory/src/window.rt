@@ -1,9 +1,11 @@
 // A window: the `size` words from word `base` on of another kept memory, as a kept memory of its own, numbered from 0.
 // No call through a window touches a word outside it. A window that does not fit has no words.
 // On store and swap the clause `around` gives the whole row of the memory below.
-ghost use Rattle.std.specs.Prelude.{◌≡◌, ℕ, ◌+◌, ◌^◌, ◌<◌, true, cond, nat_lt, List, length, Ok, Err, IfOk};
+#![tactic(auto, using(crate::proofs::Seen::words_seen))]
+
+ghost use Rattle.std.specs.Prelude.{◌≡◌, ℕ, ◌+◌, ◌^◌, ◌<◌, true, cond, nat_lt, List, Ok, Err, IfOk};
 ghost use Rattle.memory.specs.Row.{stored, swapped, row_stored, row_swapped};
-ghost use Rattle.memory.specs.Seen.{fits_in, fitting, seen, size_seen, SameWord, shown, beside_shown, below_stored, below_swapped, CutThroughWindow};
+ghost use Rattle.memory.specs.Seen.{fits_in, fitting, size_seen, SameWord, shown, beside_shown, below_stored, below_swapped, CutThroughWindow};
 
 use crate::kept::{KeptMemory, Refusal};
 
@@ -51,17 +53,14 @@ impl<M: KeptMemory> Window<M> {
     }
 
     // How many words are seen: all of the window's, or none where it does not fit.
-    #[tactic(auto, using(crate::proofs::Seen::length_seen))]
     fn len(&self) -> usize
         ensures value { result ≡ size_seen (M.words self.now.memory) self.now.base self.now.size }
         ensures room { 0 < result → self.now.base + result < 2 ^ 64 }
-        ensures row { result ≡ length (seen (M.words self.now.memory) self.now.base self.now.size) }
     {
         if self.is_within() { self.size } else { 0 }
     }
 
     // The number that the window's word `i` has in the memory below; refused where the window shows no such word.
-    #[tactic(auto, using(crate::proofs::Seen::words_seen))]
     fn place(&self, i: usize) -> Result<usize, Refusal>
         ensures value { result ≡ cond (nat_lt i (size_seen (M.words self.now.memory) self.now.base self.now.size)) (Ok (self.now.base + i)) (Err Refusal.NoSuchWord) }
         ensures same { IfOk result (SameWord (M.words self.now.memory) self.now.base self.now.size i) }
@@ -114,7 +113,6 @@ impl<M: KeptMemory> KeptMemory for Window<M> {
 }
 
 // Does nothing: its contract is the law that a window keeps the promise on cuts where the memory below does.
-#[tactic(auto, using(crate::proofs::Seen::words_seen))]
 pub fn cut_through_window()
     ensures { CutThroughWindow }
 {}
