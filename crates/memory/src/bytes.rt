@@ -35,6 +35,7 @@ impl<'a> WordRow for &'a mut [u8] {
         u64::from_be_bytes(self.as_chunks::<8>().0[i])
     }
 
+    // Not by `as_chunks_mut`, tried: no clause of it says what the slice ends as, so the proof did not close.
     fn put(&mut self, i: usize, w: u64) {
         self[8 * i..8 * i + 8].copy_from_slice(&w.to_be_bytes());
     }
