@@ -8,8 +8,8 @@ use memory::kept::KeptMemory;
 use protocol::layout::{key_at, value_at};
 use protocol::moves::{Access, Move, RunnerNext};
 use protocol::numbers::{Answer, Operation};
-use protocol::table::{Runner, Split, Stage, Table};
-use search::{find_slot, new_page, new_slot};
+use protocol::table::{Split, Stage, Turn};
+use search::View;
 use values::value_word::cleared;
 
 const DONE: Stage = Stage::Answered {
@@ -17,15 +17,19 @@ const DONE: Stage = Stage::Answered {
     value: 0,
 };
 
-fn act_found(runner: usize, x: Runner, page: u8, slot: u8, operation: Operation) -> Move
-    ensures { result ≡ acting_found runner x page slot operation }
+fn act_found(turn: Turn, page: u8, slot: u8, operation: Operation) -> Move
+    ensures { result ≡ acting_found turn.index turn.runner page slot operation }
 {
     match operation {
-        Operation::Enter => Move::rests(runner),
-        Operation::Change => Move::goes(runner, Access::Store(value_at(page, slot), x.word), DONE),
-        Operation::Remove => Move::goes(runner, Access::Store(key_at(page, slot), 0), DONE),
+        Operation::Enter => Move::rests(turn.index),
+        Operation::Change => Move::goes(
+            turn.index,
+            Access::Store(value_at(page, slot), turn.runner.word),
+            DONE,
+        ),
+        Operation::Remove => Move::goes(turn.index, Access::Store(key_at(page, slot), 0), DONE),
         Operation::Look => Move::moves(
-            runner,
+            turn.index,
             Access::Load(value_at(page, slot)),
             RunnerNext::AnswerLoaded,
         ),
@@ -33,32 +37,32 @@ fn act_found(runner: usize, x: Runner, page: u8, slot: u8, operation: Operation)
 }
 
 // With no split of the page, or in its copy phase.
-pub fn act<M: KeptMemory>(memory: &M, table: &Table, runner: usize, x: Runner, page: u8) -> Move
-    ensures { result ≡ acting (M.KeptMemory.words memory.now) table.now runner x page }
+pub fn act<M: KeptMemory, K: KeyKind>(view: &View<M, K>, turn: Turn, page: u8) -> Move
+    ensures { result ≡ acting (M.words view.now.memory.now) view.now.table.now turn.index turn.runner page }
 {
-    match find_slot(memory, table.page_at(page).committed, page, x.key) {
-        Some(slot) => act_found(runner, x, page, slot, x.operation),
-        None => Move::answers(runner, Answer::NotThere),
+    match view.find_committed(page, turn.runner.key) {
+        Some(slot) => act_found(turn, page, slot, turn.runner.operation),
+        None => Move::answers(turn.index, Answer::NotThere),
     }
 }
 
-fn sync_found(runner: usize, x: Runner, page: u8, slot: u8, operation: Operation) -> Move
-    ensures { result ≡ syncing_found runner x page slot operation }
+fn sync_found(turn: Turn, page: u8, slot: u8, operation: Operation) -> Move
+    ensures { result ≡ syncing_found turn.index turn.runner page slot operation }
 {
     match operation {
-        Operation::Enter => Move::rests(runner),
+        Operation::Enter => Move::rests(turn.index),
         Operation::Change => Move::goes(
-            runner,
-            Access::Store(value_at(page, slot), x.word),
+            turn.index,
+            Access::Store(value_at(page, slot), turn.runner.word),
             Stage::PendingNew { page, slot },
         ),
         Operation::Remove => Move::goes(
-            runner,
+            turn.index,
             Access::Store(key_at(page, slot), 0),
             Stage::PendingRemove { page },
         ),
         Operation::Look => Move::moves(
-            runner,
+            turn.index,
             Access::Load(value_at(page, slot)),
             RunnerNext::CompareLoaded { page },
         ),
@@ -67,121 +71,105 @@ fn sync_found(runner: usize, x: Runner, page: u8, slot: u8, operation: Operation
 
 // Stores 0 over the new key unless it is gone, and is answered.
 fn clear_new<M: KeptMemory, K: KeyKind>(
-    memory: &M,
+    view: &View<M, K>,
     split: Split,
-    runner: usize,
-    key: u64,
+    turn: Turn,
     answer: Answer,
 ) -> Move
-    ensures { result ≡ clearing_new K.KeyKind.before (M.KeptMemory.words memory.now) split runner key answer }
+    ensures { result ≡ clearing_new K.before (M.words view.now.memory.now) split turn.index turn.runner.key answer }
 {
-    match new_slot::<M, K>(memory, split, key) {
-        Some(new) => {
-            let at = key_at(new_page::<K>(split, key), new);
-            Move::goes(
-                runner,
-                Access::Store(at, 0),
-                Stage::Answered { answer, value: 0 },
-            )
-        }
-        None => Move::answers(runner, answer),
+    let key = turn.runner.key;
+    match view.new_slot(split, key) {
+        Some(new) => Move::goes(
+            turn.index,
+            Access::Store(key_at(view.new_page(split, key), new), 0),
+            Stage::Answered { answer, value: 0 },
+        ),
+        None => Move::answers(turn.index, answer),
     }
 }
 
 // In the sync phase of the page.
 pub fn act_in_sync<M: KeptMemory, K: KeyKind>(
-    memory: &M,
-    table: &Table,
+    view: &View<M, K>,
     split: Split,
-    runner: usize,
-    x: Runner,
+    turn: Turn,
     page: u8,
 ) -> Move
-    ensures { result ≡ acting_in_sync K.KeyKind.before (M.KeptMemory.words memory.now) table.now split runner x page }
+    ensures { result ≡ acting_in_sync K.before (M.words view.now.memory.now) view.now.table.now split turn.index turn.runner page }
 {
-    match find_slot(memory, table.page_at(page).committed, page, x.key) {
-        Some(slot) => sync_found(runner, x, page, slot, x.operation),
-        None => clear_new::<M, K>(memory, split, runner, x.key, Answer::NotThere),
+    match view.find_committed(page, turn.runner.key) {
+        Some(slot) => sync_found(turn, page, slot, turn.runner.operation),
+        None => clear_new(view, split, turn, Answer::NotThere),
     }
 }
 
 // Loads the new word to answer its value; not there if the key is gone.
-pub fn read<M: KeptMemory, K: KeyKind>(memory: &M, split: Split, runner: usize, x: Runner) -> Move
-    ensures { result ≡ reading K.KeyKind.before (M.KeptMemory.words memory.now) split runner x }
+pub fn read<M: KeptMemory, K: KeyKind>(view: &View<M, K>, split: Split, turn: Turn) -> Move
+    ensures { result ≡ reading K.before (M.words view.now.memory.now) split turn.index turn.runner }
 {
-    match new_slot::<M, K>(memory, split, x.key) {
+    let key = turn.runner.key;
+    match view.new_slot(split, key) {
         Some(new) => {
-            let at = value_at(new_page::<K>(split, x.key), new);
-            Move::moves(runner, Access::Load(at), RunnerNext::AnswerLoaded)
+            let at = value_at(view.new_page(split, key), new);
+            Move::moves(turn.index, Access::Load(at), RunnerNext::AnswerLoaded)
         }
-        None => Move::answers(runner, Answer::NotThere),
+        None => Move::answers(turn.index, Answer::NotThere),
     }
 }
 
 fn link_as<M: KeptMemory, K: KeyKind>(
-    memory: &M,
+    view: &View<M, K>,
     split: Split,
-    runner: usize,
-    x: Runner,
+    turn: Turn,
     operation: Operation,
 ) -> Move
-    ensures { result ≡ linking_as K.KeyKind.before (M.KeptMemory.words memory.now) split runner x operation }
+    ensures { result ≡ linking_as K.before (M.words view.now.memory.now) split turn.index turn.runner operation }
 {
     match operation {
-        Operation::Enter => Move::rests(runner),
-        Operation::Change | Operation::Remove => Move::turns(runner, Stage::Helping),
-        Operation::Look => read::<M, K>(memory, split, runner, x),
+        Operation::Enter => Move::rests(turn.index),
+        Operation::Change | Operation::Remove => Move::turns(turn.index, Stage::Helping),
+        Operation::Look => read(view, split, turn),
     }
 }
 
 // In the link phase of the page.
-pub fn act_in_link<M: KeptMemory, K: KeyKind>(
-    memory: &M,
-    split: Split,
-    runner: usize,
-    x: Runner,
-) -> Move
-    ensures { result ≡ acting_in_link K.KeyKind.before (M.KeptMemory.words memory.now) split runner x }
+pub fn act_in_link<M: KeptMemory, K: KeyKind>(view: &View<M, K>, split: Split, turn: Turn) -> Move
+    ensures { result ≡ acting_in_link K.before (M.words view.now.memory.now) split turn.index turn.runner }
 {
-    link_as::<M, K>(memory, split, runner, x, x.operation)
+    link_as(view, split, turn, turn.runner.operation)
 }
 
 fn pend_new<M: KeptMemory, K: KeyKind>(
-    memory: &M,
+    view: &View<M, K>,
     split: Split,
-    runner: usize,
-    key: u64,
+    turn: Turn,
     page: u8,
     slot: u8,
 ) -> Move
-    ensures { result ≡ pending_new runner (new_page K.KeyKind.before split key) page slot (new_slot K.KeyKind.before (M.KeptMemory.words memory.now) split key) }
+    ensures { result ≡ pending_new turn.index (new_page K.before split turn.runner.key) page slot (new_slot K.before (M.words view.now.memory.now) split turn.runner.key) }
 {
-    match new_slot::<M, K>(memory, split, key) {
-        Some(new) => {
-            let at = value_at(new_page::<K>(split, key), new);
-            Move::moves(
-                runner,
-                Access::Load(at),
-                RunnerNext::PendLoaded { page, slot, new },
-            )
-        }
-        None => Move::answers(runner, Answer::Done),
+    let key = turn.runner.key;
+    match view.new_slot(split, key) {
+        Some(new) => Move::moves(
+            turn.index,
+            Access::Load(value_at(view.new_page(split, key), new)),
+            RunnerNext::PendLoaded { page, slot, new },
+        ),
+        None => Move::answers(turn.index, Answer::Done),
     }
 }
 
 fn pend_at<M: KeptMemory, K: KeyKind>(
-    memory: &M,
+    view: &View<M, K>,
     split: Split,
-    runner: usize,
-    x: Runner,
+    turn: Turn,
     stage: Stage,
 ) -> Move
-    ensures { result ≡ pending_at K.KeyKind.before (M.KeptMemory.words memory.now) split runner x stage }
+    ensures { result ≡ pending_at K.before (M.words view.now.memory.now) split turn.index turn.runner stage }
 {
     match stage {
-        Stage::PendingNew { page, slot } => pend_new::<M, K>(
-            memory, split, runner, x.key, page, slot,
-        ),
+        Stage::PendingNew { page, slot } => pend_new(view, split, turn, page, slot),
         Stage::PendingOld {
             page,
             slot,
@@ -189,7 +177,7 @@ fn pend_at<M: KeptMemory, K: KeyKind>(
             word,
         } => {
             Move::moves(
-                runner,
+                turn.index,
                 Access::Load(value_at(page, slot)),
                 RunnerNext::WeighLoaded {
                     page,
@@ -206,70 +194,61 @@ fn pend_at<M: KeptMemory, K: KeyKind>(
             word,
             old,
         } => {
-            let at = value_at(new_page::<K>(split, x.key), new);
+            let at = value_at(view.new_page(split, turn.runner.key), new);
             let own = RunnerNext::BySwap {
                 written: DONE,
                 missed: Stage::PendingNew { page, slot },
             };
-            Move::moves(runner, Access::Swap(at, word, cleared(old)), own)
+            Move::moves(turn.index, Access::Swap(at, word, cleared(old)), own)
         }
-        Stage::PendingRemove { .. } => clear_new::<M, K>(
-            memory,
-            split,
-            runner,
-            x.key,
-            Answer::Done,
-        ),
-        _ => Move::rests(runner),
+        Stage::PendingRemove { .. } => clear_new(view, split, turn, Answer::Done),
+        _ => Move::rests(turn.index),
     }
 }
 
 // The next step of a pending change or remove.
-pub fn pend<M: KeptMemory, K: KeyKind>(memory: &M, split: Split, runner: usize, x: Runner) -> Move
-    ensures { result ≡ pending K.KeyKind.before (M.KeptMemory.words memory.now) split runner x }
+pub fn pend<M: KeptMemory, K: KeyKind>(view: &View<M, K>, split: Split, turn: Turn) -> Move
+    ensures { result ≡ pending K.before (M.words view.now.memory.now) split turn.index turn.runner }
 {
-    pend_at::<M, K>(memory, split, runner, x, x.stage)
+    pend_at(view, split, turn, turn.runner.stage)
 }
 
 // The first step of a comparing look.
 pub fn compare<M: KeptMemory, K: KeyKind>(
-    memory: &M,
+    view: &View<M, K>,
     split: Split,
-    runner: usize,
-    x: Runner,
+    turn: Turn,
     page: u8,
     old: u64,
 ) -> Move
-    ensures { result ≡ comparing K.KeyKind.before (M.KeptMemory.words memory.now) split runner x page old }
+    ensures { result ≡ comparing K.before (M.words view.now.memory.now) split turn.index turn.runner page old }
 {
-    match new_slot::<M, K>(memory, split, x.key) {
-        Some(new) => {
-            let at = value_at(new_page::<K>(split, x.key), new);
-            Move::moves(
-                runner,
-                Access::Load(at),
-                RunnerNext::JudgeLoaded { page, new, old },
-            )
-        }
-        None => Move::answers(runner, Answer::NotThere),
+    let key = turn.runner.key;
+    match view.new_slot(split, key) {
+        Some(new) => Move::moves(
+            turn.index,
+            Access::Load(value_at(view.new_page(split, key), new)),
+            RunnerNext::JudgeLoaded { page, new, old },
+        ),
+        None => Move::answers(turn.index, Answer::NotThere),
     }
 }
 
 // Its second step.
-pub fn compare_swap<K: KeyKind>(
+pub fn compare_swap<M: KeptMemory, K: KeyKind>(
+    view: &View<M, K>,
     split: Split,
-    runner: usize,
-    x: Runner,
+    turn: Turn,
     page: u8,
     new: u8,
     word: u64,
     old: u64,
 ) -> Move
-    ensures { result ≡ comparing_swap K.KeyKind.before split runner x page new word old }
+    ensures { result ≡ comparing_swap K.before split turn.index turn.runner page new «word» old }
 {
-    let at = value_at(new_page::<K>(split, x.key), new);
+    let at = value_at(view.new_page(split, turn.runner.key), new);
     Move::goes(
-        runner,
+        turn.index,
         Access::Swap(at, word, cleared(old)),
         Stage::Reading { page },
     )

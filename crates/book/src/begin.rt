@@ -4,7 +4,7 @@ ghost use Rattle.protocol.specs.Search.{first_from, is_some};
 ghost use Rattle.protocol.specs.Calls.{draws, is_enter, is_open, enters as enters_key, is_resting, begun_drawing, begun_with, begun};
 
 use crate::book::Book;
-use crate::step::runner_refusal;
+use crate::step::runner_index;
 use keys::kind::KeyKind;
 use memory::kept::KeptMemory;
 use protocol::numbers::{Operation, Refusal};
@@ -18,56 +18,21 @@ const LAST_NUMBER: u32 = 2147483647;
 fn draws_number(operation: Operation) -> bool
     ensures { result ≡ draws operation }
 {
-    match operation {
-        Operation::Enter | Operation::Change => true,
-        Operation::Remove | Operation::Look => false,
-    }
-}
-
-fn is_enter(operation: Operation) -> bool
-    ensures { result ≡ is_enter operation }
-{
-    match operation {
-        Operation::Enter => true,
-        Operation::Change | Operation::Remove | Operation::Look => false,
-    }
-}
-
-fn is_open(activity: Activity) -> bool
-    ensures { result ≡ is_open activity }
-{
-    match activity {
-        Activity::Open => true,
-        Activity::Resting | Activity::Waiting { .. } => false,
-    }
-}
-
-fn is_resting(activity: Activity) -> bool
-    ensures { result ≡ is_resting activity }
-{
-    match activity {
-        Activity::Resting => true,
-        Activity::Open | Activity::Waiting { .. } => false,
-    }
+    matches!(operation, Operation::Enter | Operation::Change)
 }
 
 fn enters(table: &Table, key: u64, i: usize) -> bool
     ensures { result ≡ enters_key table.now key i }
 {
     let x = table.runner_at(i);
-    is_enter(x.operation) && x.key == key && is_open(x.stage.activity())
+    x.operation == Operation::Enter && x.key == key && matches!(x.stage.activity(), Activity::Open)
 }
 
 // Whether some open enter has the key.
 fn is_being_entered(table: &Table, key: u64) -> bool
     ensures { result ≡ is_some (first_from (enters_key table.now key) 0 8) }
 {
-    for i in 0..8 {
-        if enters(table, key, i) {
-            return true;
-        }
-    }
-    false
+    (0..8).any(|i| enters(table, key, i))
 }
 
 // The operation starts at locating; an enter or a change draws its change number.
@@ -112,7 +77,7 @@ fn begin_with<K: KeyKind>(
     if !K::is_key(key) {
         return Err(Refusal::NotAKey);
     }
-    if is_enter(operation) && is_being_entered(table, key) {
+    if operation == Operation::Enter && is_being_entered(table, key) {
         return Err(Refusal::BeingEntered);
     }
     start(table, i, operation, key, value)
@@ -130,16 +95,11 @@ impl<M: KeptMemory, K: KeyKind> Book<M, K> {
         ensures after { (self.new.table, result) ≡ begun K.KeyKind.key self.old.table runner operation key value }
         ensures same { self.new.memory ≡ self.old.memory }
     {
-        if let Some(refusal) = runner_refusal(&self.table, runner) {
-            return Err(refusal);
-        }
-        let i = (runner as usize).saturating_sub(1);
-        if !is_resting(self.table.runner_at(i).stage.activity()) {
+        let i = runner_index(&self.table, runner)?;
+        if !matches!(self.table.runner_at(i).stage, Stage::Idle) {
             return Err(Refusal::Busy);
         }
-        match Operation::of(operation) {
-            Some(operation) => begin_with::<K>(&mut self.table, i, operation, key, value),
-            None => Err(Refusal::NoSuchOperation),
-        }
+        let operation = Operation::try_from(operation)?;
+        begin_with::<K>(&mut self.table, i, operation, key, value)
     }
 }

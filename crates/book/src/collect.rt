@@ -3,7 +3,7 @@ ghost use Rattle.std.specs.Prelude.{◌≡◌};
 ghost use Rattle.protocol.specs.Calls.{collected};
 
 use crate::book::Book;
-use crate::step::runner_refusal;
+use crate::step::runner_index;
 use keys::kind::KeyKind;
 use memory::kept::KeptMemory;
 use protocol::numbers::{Answer, Refusal};
@@ -15,10 +15,7 @@ impl<M: KeptMemory, K: KeyKind> Book<M, K> {
         ensures after { (self.new.table, result) ≡ collected self.old.table runner }
         ensures same { self.new.memory ≡ self.old.memory }
     {
-        if let Some(refusal) = runner_refusal(&self.table, runner) {
-            return Err(refusal);
-        }
-        let i = (runner as usize).saturating_sub(1);
+        let i = runner_index(&self.table, runner)?;
         match self.table.runner_at(i).stage.activity() {
             Activity::Resting => Err(Refusal::IdleRunner),
             Activity::Open => Err(Refusal::StillOpen),

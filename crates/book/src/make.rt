@@ -8,14 +8,14 @@ use keys::kind::KeyKind;
 use memory::kept::KeptMemory;
 use protocol::numbers::Refusal;
 use protocol::table::{PageRow, Table};
-use survey::size_refusal;
+use survey::check_size;
 
 fn store_all<M: KeptMemory>(memory: &mut M, stores: &[(usize, u64)])
     ensures row { M.KeptMemory.words memory.new ≡ all_stored (M.KeptMemory.words memory.old) stores.now }
     ensures beside { M.KeptMemory.rest memory.new ≡ M.KeptMemory.rest memory.old }
 {
-    for store in stores {
-        let _ = memory.store(store.0, store.1);
+    for (at, word) in stores {
+        let _ = memory.store(*at, *word);
     }
 }
 
@@ -23,15 +23,7 @@ fn new_table(count: u8) -> Table
     ensures { result ≡ made_table count }
 {
     let mut table = Table::bare(true, count, 1);
-    table.set_page(
-        1,
-        PageRow {
-            listed: true,
-            next: 0,
-            taken: 0,
-            committed: 0,
-        },
-    );
+    table.set_page(1, PageRow::filled(0, 0));
     table
 }
 
@@ -65,9 +57,7 @@ impl<M: KeptMemory, K: KeyKind> Book<M, K> {
         ensures after { (M.KeptMemory.words self.new.memory, self.new.table, result) ≡ made (M.KeptMemory.words self.old.memory) self.old.table runners }
         ensures beside { M.KeptMemory.rest self.new.memory ≡ M.KeptMemory.rest self.old.memory }
     {
-        if let Some(refusal) = size_refusal(&self.memory, runners) {
-            return Err(refusal);
-        }
+        check_size(&self.memory, runners)?;
         store_new_book(&mut self.memory);
         self.table = new_table(runners as u8);
         Ok(())

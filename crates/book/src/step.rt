@@ -1,5 +1,5 @@
 // Step: a runner's next small step.
-ghost use Rattle.std.specs.Prelude.{◌≡◌, ℕ, ◌-◌, Bool};
+ghost use Rattle.std.specs.Prelude.{◌≡◌, ℕ, ◌-◌, Bool, Ok, Err, Some, None};
 ghost use Rattle.protocol.specs.Calls.{runner_refusal, stepped};
 
 use crate::book::Book;
@@ -7,20 +7,21 @@ use keys::kind::KeyKind;
 use memory::kept::KeptMemory;
 use plan::plan;
 use protocol::numbers::Refusal;
-use protocol::table::{Activity, Table};
+use protocol::table::{Activity, Table, Turn};
+use search::View;
 use settle::{perform, settle};
 
-// Begin, step and collect want an open book, then a runner from 1 to the count given.
-pub(crate) fn runner_refusal(table: &Table, runner: u32) -> Option<Refusal>
-    ensures { result ≡ runner_refusal table.now runner }
+// Begin, step and collect want an open book, then a runner from 1 to the count given. The runner's number from 0.
+pub(crate) fn runner_index(table: &Table, runner: u32) -> Result<usize, Refusal>
+    ensures { elim result [ Ok i ↦ (i ≡ runner - 1) × (runner_refusal table.now runner ≡ None) | Err e ↦ runner_refusal table.now runner ≡ Some e ] }
 {
     if !table.opened {
-        return Some(Refusal::Closed);
+        return Err(Refusal::Closed);
     }
     if runner < 1 || runner > table.count as u32 {
-        return Some(Refusal::NoSuchRunner);
+        return Err(Refusal::NoSuchRunner);
     }
-    None
+    Ok(runner as usize - 1)
 }
 
 impl<M: KeptMemory, K: KeyKind> Book<M, K> {
@@ -29,16 +30,14 @@ impl<M: KeptMemory, K: KeyKind> Book<M, K> {
         ensures after { (M.KeptMemory.words self.new.memory, self.new.table, result) ≡ stepped K.KeyKind.before (M.KeptMemory.words self.old.memory) self.old.table runner }
         ensures beside { M.KeptMemory.rest self.new.memory ≡ M.KeptMemory.rest self.old.memory }
     {
-        if let Some(refusal) = runner_refusal(&self.table, runner) {
-            return Err(refusal);
-        }
-        let i = (runner as usize).saturating_sub(1);
-        let x = self.table.runner_at(i);
-        match x.stage.activity() {
+        let index = runner_index(&self.table, runner)?;
+        let runner = self.table.runner_at(index);
+        match runner.stage.activity() {
             Activity::Resting => Err(Refusal::IdleRunner),
             Activity::Waiting { .. } => Err(Refusal::AlreadyAnswered),
             Activity::Open => {
-                let step = plan::<M, K>(&self.memory, &self.table, i, x);
+                let view: View<M, K> = View::new(&self.memory, &self.table);
+                let step = plan(&view, Turn { index, runner });
                 let outcome = perform(&mut self.memory, step.access);
                 settle(&mut self.table, step, outcome);
                 Ok(())

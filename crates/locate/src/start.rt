@@ -1,7 +1,9 @@
 // How a split is started: which key parts the page, and which pages are new.
 ghost use Rattle.std.specs.Prelude.{◌≡◌, ℕ, ◌+◌, ◌<◌, ◌≤◌, Bool, true, false, length, Some, None};
-ghost use Rattle.protocol.specs.Search.{first_from, is_some};
-ghost use Rattle.protocol.specs.Locate.{holds_page, live_key, live_keys, key_count, rank, split_key, in_split, free, round_after, round_page, free_from, new_split, starts, into_one, into_second, into_two, starting_with, starting};
+ghost use Rattle.protocol.specs.Layout.{page_count};
+ghost use Rattle.protocol.specs.Locate.{live_key, live_keys, key_count, rank, split_key, in_split, free, round_after, round_page, free_from, new_split, starts, into_one, into_second, into_two, starting_with, starting};
+ghost use Rattle.protocol.specs.Moves.{answers};
+ghost use Rattle.protocol.specs.declared.numbers.Answer.TheVariants.{NoRoom};
 
 use keys::kind::KeyKind;
 use memory::kept::KeptMemory;
@@ -10,7 +12,8 @@ use protocol::moves::{Access, Move, RunnerNext, TableNext};
 use protocol::numbers::Answer;
 use protocol::rows::is_set;
 use protocol::table::{NewSlot, Progress, Split, Stage, Table};
-use search::{pages_of, word};
+use search::{View, pages_of, word};
+use std::array;
 
 fn key_of_live<M: KeptMemory>(memory: &M, bits: u8, page: u8, slot: u8) -> u64
     ensures { result ≡ live_key (M.KeptMemory.words memory.now) bits page slot }
@@ -26,31 +29,18 @@ fn key_of_live<M: KeptMemory>(memory: &M, bits: u8, page: u8, slot: u8) -> u64
 fn keys_of_page<M: KeptMemory>(memory: &M, bits: u8, page: u8) -> [u64; 8]
     ensures { result ≡ live_keys (M.KeptMemory.words memory.now) bits page }
 {
-    [
-        key_of_live(memory, bits, page, 0),
-        key_of_live(memory, bits, page, 1),
-        key_of_live(memory, bits, page, 2),
-        key_of_live(memory, bits, page, 3),
-        key_of_live(memory, bits, page, 4),
-        key_of_live(memory, bits, page, 5),
-        key_of_live(memory, bits, page, 6),
-        key_of_live(memory, bits, page, 7),
-    ]
+    array::from_fn(|slot| key_of_live(memory, bits, page, slot as u8))
 }
 
 fn count_keys(keys: &[u64]) -> usize
     ensures value { result ≡ key_count keys.now }
 {
-    let mut n = 0;
-    for key in keys {
-        if *key != 0 {
-            n += 1;
-        }
-    }
-    n
+    keys.iter().filter(|key| **key != 0).count()
 }
 
 // How many keys come before the key.
+// Ranks are counted in loops over a page's keys: this project's form for the split key.
+#[tactic(auto, using(protocol::proofs::Ranks::rank_more, protocol::proofs::Ranks::rank_all))]
 fn rank_of<K: KeyKind>(keys: &[u64], key: u64) -> usize
     ensures { result ≡ rank K.KeyKind.before key keys.now }
 {
@@ -64,6 +54,7 @@ fn rank_of<K: KeyKind>(keys: &[u64], key: u64) -> usize
 }
 
 // The key with just half of the keys before it.
+#[tactic(auto, using(protocol::proofs::Ranks::ranked_more, protocol::proofs::Ranks::ranked_all))]
 fn parting_key<K: KeyKind>(keys: &[u64]) -> u64
     ensures { result ≡ split_key K.KeyKind.before keys.now }
 {
@@ -79,156 +70,134 @@ fn parting_key<K: KeyKind>(keys: &[u64]) -> u64
 fn is_in_split(split: Option<Split>, page: u8) -> bool
     ensures { result ≡ in_split split page }
 {
-    match split {
-        Some(split) => split.old == page || split.left == page || split.right == page,
-        None => false,
-    }
-}
-
-// Whether a runner holds the page.
-fn is_held(table: &Table, page: u8) -> bool
-    ensures { result ≡ is_some (first_from (holds_page table.now page) 0 8) }
-{
-    for i in 0..8 {
-        if table.runner_at(i).stage.held() == page {
-            return true;
-        }
-    }
-    false
+    split.is_some_and(|split| split.old == page || split.left == page || split.right == page)
 }
 
 // Not in the list, not in the split and not held.
 fn is_free(table: &Table, page: u8) -> bool
     ensures { result ≡ free table.now page }
 {
-    !table.page_at(page).listed && !is_in_split(table.split, page) && !is_held(table, page)
+    !table.page_at(page).listed && !is_in_split(table.split, page) && !table.is_held(page)
 }
 
-// The i-th page going round all pages from the place of the round.
-fn round_page(table: &Table, pages: u8, i: u8) -> u8
-    requires { (0 < pages) × (pages ≤ 64) }
-    ensures { result ≡ round_page pages table.now.round i }
-{
-    ((table.round.saturating_sub(1) as u16 + i as u16) % pages as u16 + 1) as u8
+// A split that a runner is about to start: of which page, at which key, and how many pages there are to go round.
+#[derive(Clone, Copy)]
+struct Starter<'a> {
+    table: &'a Table,
+    pages: u8,
+    index: usize,
+    page: u8,
+    key: u64,
+    ghost most: { pages ≤ 64 },
 }
 
-// The next free page, as its place in the round, from place `from` on.
-fn next_free(table: &Table, pages: u8, from: u8) -> Option<u8>
-    requires { pages ≤ 64 }
-    ensures within { elim result [ Some i ↦ i < pages | None ↦ 0 ≤ pages ] }
-    ensures value { result ≡ free_from table.now pages from }
-{
-    for i in from..pages {
-        if is_free(table, round_page(table, pages, i)) {
-            return Some(i);
+impl<'a> Starter<'a> {
+    // The i-th page going round all pages from the place of the round.
+    fn round_page(&self, i: u8) -> u8
+        requires { 0 < self.now.pages }
+        ensures { result ≡ round_page self.now.pages self.now.table.now.round i }
+    {
+        ((self.table.round.saturating_sub(1) as u16 + i as u16) % self.pages as u16 + 1) as u8
+    }
+
+    // The next free page, as its place in the round, from place `from` on.
+    fn next_free(&self, from: u8) -> Option<u8>
+        ensures within { elim result [ Some i ↦ i < self.now.pages | None ↦ 0 ≤ self.now.pages ] }
+        ensures value { result ≡ free_from self.now.table.now self.now.pages from }
+    {
+        (from..self.pages).find(|i| is_free(self.table, self.round_page(*i)))
+    }
+
+    // The runner starts the split and goes to helping; the round goes on after the page taken last.
+    fn start(&self, left: u8, right: u8, last: u8) -> Move
+        requires { 0 < self.now.pages }
+        ensures { result ≡ starts self.now.index (new_split self.now.page left right self.now.key) (round_after self.now.pages last) }
+    {
+        let split = Split {
+            old: self.page,
+            left,
+            right,
+            key: self.key,
+            progress: Progress::Clearing { done: 0 },
+            copies: [NewSlot { page: 0, slot: 0 }; 8],
+            lefts: 0,
+            rights: 0,
+        };
+        Move {
+            runner: self.index,
+            access: Access::Nothing,
+            own: RunnerNext::Go(Stage::Helping),
+            rest: TableNext::Start {
+                split,
+                round: last % self.pages + 1,
+            },
         }
     }
-    None
-}
 
-// A split of the page as it starts.
-fn split_of(page: u8, left: u8, right: u8, key: u64) -> Split
-    ensures { result ≡ new_split page left right key }
-{
-    Split {
-        old: page,
-        left,
-        right,
-        key,
-        progress: Progress::Clearing { done: 0 },
-        copies: [NewSlot { page: 0, slot: 0 }; 8],
-        lefts: 0,
-        rights: 0,
+    fn no_room(&self) -> Move
+        ensures { result ≡ answers self.now.index NoRoom }
+    {
+        Move::answers(self.index, Answer::NoRoom)
     }
-}
 
-// The runner starts the split and goes to helping.
-fn start(runner: usize, split: Split, round: u8) -> Move
-    ensures { result ≡ starts runner split round }
-{
-    Move {
-        runner,
-        access: Access::Nothing,
-        own: RunnerNext::Go(Stage::Helping),
-        rest: TableNext::Start { split, round },
-    }
-}
-
-// The page after the page going round all pages.
-fn round_after(pages: u8, page: u8) -> u8
-    requires { (0 < pages) × (pages ≤ 64) }
-    ensures { result ≡ round_after pages page }
-{
-    page % pages + 1
-}
-
-fn start_into_one(table: &Table, pages: u8, runner: usize, page: u8, key: u64) -> Move
-    requires { pages ≤ 64 }
-    ensures { result ≡ into_one table.now pages runner page key (free_from table.now pages 0) }
-{
-    match next_free(table, pages, 0) {
-        Some(i) => {
-            let left = round_page(table, pages, i);
-            start(
-                runner,
-                split_of(page, left, 0, key),
-                round_after(pages, left),
-            )
+    fn into_one(&self) -> Move
+        ensures { result ≡ into_one self.now.table.now self.now.pages self.now.index self.now.page self.now.key (free_from self.now.table.now self.now.pages 0) }
+    {
+        match self.next_free(0) {
+            Some(i) => {
+                let left = self.round_page(i);
+                self.start(left, 0, left)
+            }
+            None => self.no_room(),
         }
-        None => Move::answers(runner, Answer::NoRoom),
     }
-}
 
-fn start_into_second(table: &Table, pages: u8, runner: usize, page: u8, key: u64, i: u8) -> Move
-    requires { (pages ≤ 64) × (i < pages) }
-    ensures { result ≡ into_second table.now pages runner page key i (free_from table.now pages (i + 1)) }
-{
-    match next_free(table, pages, i + 1) {
-        Some(j) => {
-            let left = round_page(table, pages, i);
-            let right = round_page(table, pages, j);
-            start(
-                runner,
-                split_of(page, left, right, key),
-                round_after(pages, right),
-            )
+    fn into_second(&self, i: u8) -> Move
+        requires { i < self.now.pages }
+        ensures { result ≡ into_second self.now.table.now self.now.pages self.now.index self.now.page self.now.key i (free_from self.now.table.now self.now.pages (i + 1)) }
+    {
+        match self.next_free(i + 1) {
+            Some(j) => {
+                let right = self.round_page(j);
+                self.start(self.round_page(i), right, right)
+            }
+            None => self.no_room(),
         }
-        None => Move::answers(runner, Answer::NoRoom),
     }
-}
 
-fn start_into_two(table: &Table, pages: u8, runner: usize, page: u8, key: u64) -> Move
-    requires { pages ≤ 64 }
-    ensures { result ≡ into_two table.now pages runner page key (free_from table.now pages 0) }
-{
-    match next_free(table, pages, 0) {
-        Some(i) => start_into_second(table, pages, runner, page, key, i),
-        None => Move::answers(runner, Answer::NoRoom),
+    fn into_two(&self) -> Move
+        ensures { result ≡ into_two self.now.table.now self.now.pages self.now.index self.now.page self.now.key (free_from self.now.table.now self.now.pages 0) }
+    {
+        match self.next_free(0) {
+            Some(i) => self.into_second(i),
+            None => self.no_room(),
+        }
     }
 }
 
 // Up to four keys go into one new page, more into two.
-fn start_with<K: KeyKind>(table: &Table, pages: u8, runner: usize, page: u8, keys: &[u64]) -> Move
+fn start_with<K: KeyKind>(table: &Table, pages: u8, index: usize, page: u8, keys: &[u64]) -> Move
     requires { pages ≤ 64 }
-    ensures { result ≡ starting_with K.KeyKind.before table.now pages runner page keys.now }
+    ensures { result ≡ starting_with K.KeyKind.before table.now pages index page keys.now }
 {
-    let key = parting_key::<K>(keys);
+    let starter = Starter {
+        table,
+        pages,
+        index,
+        page,
+        key: parting_key::<K>(keys),
+    };
     if count_keys(keys) <= 4 {
-        start_into_one(table, pages, runner, page, key)
+        starter.into_one()
     } else {
-        start_into_two(table, pages, runner, page, key)
+        starter.into_two()
     }
 }
 
 // A split of the full page starts, if enough pages are free.
-pub fn start_split<M: KeptMemory, K: KeyKind>(
-    memory: &M,
-    table: &Table,
-    runner: usize,
-    page: u8,
-) -> Move
-    ensures { result ≡ starting K.KeyKind.before (M.KeptMemory.words memory.now) table.now runner page }
+pub fn start_split<M: KeptMemory, K: KeyKind>(view: &View<M, K>, index: usize, page: u8) -> Move
+    ensures { result ≡ starting K.before (M.words view.now.memory.now) view.now.table.now index page }
 {
-    let keys = keys_of_page(memory, table.page_at(page).committed, page);
-    start_with::<K>(table, pages_of(memory), runner, page, &keys)
+    let keys = keys_of_page(view.memory, view.table.page_at(page).committed, page);
+    start_with::<K>(view.table, pages_of(view.memory), index, page, &keys)
 }

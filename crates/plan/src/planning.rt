@@ -10,30 +10,25 @@ use memory::kept::KeptMemory;
 use protocol::layout::{key_at, value_at};
 use protocol::moves::{Access, Move, RunnerNext, TableNext};
 use protocol::numbers::Answer;
-use protocol::table::{Runner, Split, Stage, Standing, Table};
+use protocol::table::{Split, Stage, Standing, Turn};
+use search::View;
 
 // One split step; with no split underway, a locating step.
-fn help<M: KeptMemory, K: KeyKind>(
-    memory: &M,
-    table: &Table,
-    runner: usize,
-    x: Runner,
-    split: Option<Split>,
-) -> Move
-    ensures { result ≡ helping K.KeyKind.before (M.KeptMemory.words memory.now) table.now runner x split }
+fn help<M: KeptMemory, K: KeyKind>(view: &View<M, K>, turn: Turn, split: Option<Split>) -> Move
+    ensures { result ≡ helping K.before (M.words view.now.memory.now) view.now.table.now turn.index turn.runner split }
 {
     match split {
-        Some(split) => split_step::<M, K>(memory, table, runner, split),
-        None => locate::<M, K>(memory, table, runner, x),
+        Some(split) => split_step(view, turn.index, split),
+        None => locate(view, turn),
     }
 }
 
 // The slot is committed and the enter is done.
-fn commit(runner: usize, page: u8, slot: u8) -> Move
-    ensures { result ≡ commits runner page slot }
+fn commit(index: usize, page: u8, slot: u8) -> Move
+    ensures { result ≡ commits index page slot }
 {
     Move {
-        runner,
+        runner: index,
         access: Access::Nothing,
         own: RunnerNext::Go(Stage::Answered {
             answer: Answer::Done,
@@ -44,54 +39,46 @@ fn commit(runner: usize, page: u8, slot: u8) -> Move
 }
 
 fn plan_at<M: KeptMemory, K: KeyKind>(
-    memory: &M,
-    table: &Table,
-    runner: usize,
-    x: Runner,
+    view: &View<M, K>,
+    turn: Turn,
     stage: Stage,
     standing: Standing,
 ) -> Move
-    ensures { result ≡ planned_at K.KeyKind.before (M.KeptMemory.words memory.now) table.now runner x stage standing }
+    ensures { result ≡ planned_at K.before (M.words view.now.memory.now) view.now.table.now turn.index turn.runner stage standing }
 {
     match (stage, standing) {
-        (Stage::Idle | Stage::Answered { .. }, _) => Move::rests(runner),
-        (Stage::Locating, _) => locate::<M, K>(memory, table, runner, x),
-        (Stage::Helping, _) => help::<M, K>(memory, table, runner, x, table.split),
+        (Stage::Idle | Stage::Answered { .. }, _) => Move::rests(turn.index),
+        (Stage::Locating, _) => locate(view, turn),
+        (Stage::Helping, _) => help(view, turn, view.table.split),
         (Stage::WritingValue { page, slot }, Standing::Whole) => {
             Move::goes(
-                runner,
-                Access::Store(value_at(page, slot), x.word),
+                turn.index,
+                Access::Store(value_at(page, slot), turn.runner.word),
                 Stage::WritingKey { page, slot },
             )
         }
         (Stage::WritingKey { page, slot }, Standing::Whole) => {
             Move::goes(
-                runner,
-                Access::Store(key_at(page, slot), x.key),
+                turn.index,
+                Access::Store(key_at(page, slot), turn.runner.key),
                 Stage::Committing { page, slot },
             )
         }
-        (Stage::Committing { page, slot }, Standing::Whole) => commit(runner, page, slot),
+        (Stage::Committing { page, slot }, Standing::Whole) => commit(turn.index, page, slot),
         (Stage::WritingValue { .. } | Stage::WritingKey { .. } | Stage::Committing { .. }, _) =>
-            Move::turns(runner, Stage::Helping),
-        (Stage::Acting { page }, Standing::Whole | Standing::InCopy) => act(
-            memory, table, runner, x, page,
-        ),
-        (Stage::Acting { page }, Standing::InSync(split)) => act_in_sync::<M, K>(
-            memory, table, split, runner, x, page,
-        ),
-        (Stage::Acting { .. }, Standing::InLink(split)) => act_in_link::<M, K>(
-            memory, split, runner, x,
-        ),
+            Move::turns(turn.index, Stage::Helping),
+        (Stage::Acting { page }, Standing::Whole | Standing::InCopy) => act(view, turn, page),
+        (Stage::Acting { page }, Standing::InSync(split)) => act_in_sync(view, split, turn, page),
+        (Stage::Acting { .. }, Standing::InLink(split)) => act_in_link(view, split, turn),
         (
             Stage::PendingNew { .. }
             | Stage::PendingOld { .. }
             | Stage::PendingSwap { .. }
             | Stage::PendingRemove { .. },
             Standing::InSync(split) | Standing::InLink(split),
-        ) => pend::<M, K>(memory, split, runner, x),
-        (Stage::Comparing { page, old }, Standing::InSync(split)) => compare::<M, K>(
-            memory, split, runner, x, page, old,
+        ) => pend(view, split, turn),
+        (Stage::Comparing { page, old }, Standing::InSync(split)) => compare(
+            view, split, turn, page, old,
         ),
         (
             Stage::ComparingSwap {
@@ -101,30 +88,20 @@ fn plan_at<M: KeptMemory, K: KeyKind>(
                 old,
             },
             Standing::InSync(split),
-        ) => { compare_swap::<K>(split, runner, x, page, new, word, old) }
-        (Stage::Comparing { .. }, Standing::InLink(split)) => read::<M, K>(
-            memory, split, runner, x,
+        ) => compare_swap(view, split, turn, page, new, word, old),
+        (Stage::Comparing { .. }, Standing::InLink(split)) => read(view, split, turn),
+        (Stage::ComparingSwap { .. }, Standing::InLink(split)) => read(view, split, turn),
+        (Stage::Reading { .. }, Standing::InSync(split) | Standing::InLink(split)) => read(
+            view, split, turn,
         ),
-        (Stage::ComparingSwap { .. }, Standing::InLink(split)) => read::<M, K>(
-            memory, split, runner, x,
-        ),
-        (Stage::Reading { .. }, Standing::InSync(split) | Standing::InLink(split)) => read::<M, K>(
-            memory, split, runner, x,
-        ),
-        _ => locate::<M, K>(memory, table, runner, x),
+        _ => locate(view, turn),
     }
 }
 
 // The step that a runner makes next.
-pub fn plan<M: KeptMemory, K: KeyKind>(memory: &M, table: &Table, runner: usize, x: Runner) -> Move
-    ensures { result ≡ planned K.KeyKind.before (M.KeptMemory.words memory.now) table.now runner x }
+pub fn plan<M: KeptMemory, K: KeyKind>(view: &View<M, K>, turn: Turn) -> Move
+    ensures { result ≡ planned K.before (M.words view.now.memory.now) view.now.table.now turn.index turn.runner }
 {
-    plan_at::<M, K>(
-        memory,
-        table,
-        runner,
-        x,
-        x.stage,
-        table.standing(x.stage.held()),
-    )
+    let stage = turn.runner.stage;
+    plan_at(view, turn, stage, view.table.standing(stage.held()))
 }

@@ -9,17 +9,15 @@ use keys::kind::KeyKind;
 use memory::kept::KeptMemory;
 use protocol::layout::{key_at, low_at, next_at, value_at};
 use protocol::moves::{Access, Move, TableNext};
-use protocol::table::{NewSlot, Progress, Split, Table};
-use search::{
-    goes_right, lowest_pending, new_page, next_live, next_standing, preceding_page, word,
-};
+use protocol::table::{NewSlot, Progress, Split, Table, Turn};
+use search::{View, next_live, next_standing, word};
 use values::value_word::{cleared, marked};
 
 // The slot after, and no further than 8.
 pub fn slot_after(slot: u8) -> u8
     ensures { result ≡ slot_after slot }
 {
-    if slot < 8 { slot + 1 } else { 8 }
+    slot.saturating_add(1).min(8)
 }
 
 pub fn with_progress(split: Split, progress: Progress) -> Split
@@ -88,18 +86,18 @@ fn next_of_left(table: &Table, split: Split) -> u8
 }
 
 // The next committed slot with a nonzero key is copied; after the last one the sync phase opens.
-fn copy_next<M: KeptMemory>(
-    memory: &M,
-    table: &Table,
+fn copy_next<M: KeptMemory, K: KeyKind>(
+    view: &View<M, K>,
     runner: usize,
     split: Split,
     slot: u8,
 ) -> Move
-    ensures { result ≡ copying (M.KeptMemory.words memory.now) runner split (live_from (M.KeptMemory.words memory.now) (page_at table.now split.old).committed split.old slot) }
+    ensures { result ≡ copying (M.words view.now.memory.now) runner split (live_from (M.words view.now.memory.now) (page_at view.now.table.now split.old).committed split.old slot) }
 {
-    match next_live(memory, table.page_at(split.old).committed, split.old, slot) {
+    let committed = view.table.page_at(split.old).committed;
+    match next_live(view.memory, committed, split.old, slot) {
         Some(slot) => {
-            let key = word(memory, key_at(split.old, slot));
+            let key = word(view.memory, key_at(split.old, slot));
             let access = Access::Load(value_at(split.old, slot));
             Move::splits(runner, access, TableNext::CopyLoaded { split, slot, key })
         }
@@ -108,10 +106,10 @@ fn copy_next<M: KeptMemory>(
 }
 
 // The slot of the key's new page that takes the copy.
-fn count_in_new_page<K: KeyKind>(split: Split, key: u64) -> u8
-    ensures { result ≡ new_count K.KeyKind.before split key }
+fn count_in_new_page<M: KeptMemory, K: KeyKind>(view: &View<M, K>, split: Split, key: u64) -> u8
+    ensures { result ≡ new_count K.before split key }
 {
-    if goes_right::<K>(split, key) {
+    if view.goes_right(split, key) {
         split.rights
     } else {
         split.lefts
@@ -119,17 +117,22 @@ fn count_in_new_page<K: KeyKind>(split: Split, key: u64) -> u8
 }
 
 // The split once a slot is copied: where it went is noted, and its new page has one slot more.
-fn with_copy<K: KeyKind>(split: Split, slot: u8, key: u64) -> Split
-    ensures { result ≡ copied K.KeyKind.before split slot key }
+fn with_copy<M: KeptMemory, K: KeyKind>(
+    view: &View<M, K>,
+    split: Split,
+    slot: u8,
+    key: u64,
+) -> Split
+    ensures { result ≡ copied K.before split slot key }
 {
     let mut next = split;
     if slot < 8 {
         next.copies[slot as usize] = NewSlot {
-            page: new_page::<K>(split, key),
-            slot: count_in_new_page::<K>(split, key),
+            page: view.new_page(split, key),
+            slot: count_in_new_page(view, split, key),
         };
     }
-    if goes_right::<K>(split, key) {
+    if view.goes_right(split, key) {
         next.rights = slot_after(split.rights);
     } else {
         next.lefts = slot_after(split.lefts);
@@ -174,35 +177,29 @@ fn sync_next<M: KeptMemory>(memory: &M, runner: usize, split: Split, slot: u8) -
 fn link_word(table: &Table, split: Split) -> usize
     ensures { result ≡ link_at (preceding table.now split.old) }
 {
-    match preceding_page(table, split.old) {
-        Some(page) => next_at(page),
-        None => 0,
-    }
+    table.preceding(split.old).map_or(0, next_at)
 }
 
 // While a runner is pending on the old page, the lowest such runner's own next step is taken instead.
-fn unless_pending<M: KeptMemory, K: KeyKind>(
-    memory: &M,
-    table: &Table,
-    split: Split,
-    next: Move,
-) -> Move
-    ensures { result ≡ linking K.KeyKind.before (M.KeptMemory.words memory.now) table.now split next (first_pending table.now split.old) }
+fn unless_pending<M: KeptMemory, K: KeyKind>(view: &View<M, K>, split: Split, next: Move) -> Move
+    ensures { result ≡ linking K.before (M.words view.now.memory.now) view.now.table.now split next (first_pending view.now.table.now split.old) }
 {
-    match lowest_pending(table, split.old) {
-        Some(i) => pend::<M, K>(memory, split, i, table.runner_at(i)),
+    match view.table.lowest_pending(split.old) {
+        Some(index) => {
+            let runner = view.table.runner_at(index);
+            pend(view, split, Turn { index, runner })
+        }
         None => next,
     }
 }
 
 fn split_step_at<M: KeptMemory, K: KeyKind>(
-    memory: &M,
-    table: &Table,
+    view: &View<M, K>,
     runner: usize,
     split: Split,
     progress: Progress,
 ) -> Move
-    ensures { result ≡ split_step_at K.KeyKind.before (M.KeptMemory.words memory.now) table.now runner split progress }
+    ensures { result ≡ split_step_at K.before (M.words view.now.memory.now) view.now.table.now runner split progress }
 {
     match progress {
         Progress::Clearing { done } => store(
@@ -215,12 +212,12 @@ fn split_step_at<M: KeptMemory, K: KeyKind>(
         Progress::LeftNext => store(
             runner,
             next_at(split.left),
-            next_of_left(table, split) as u64,
+            next_of_left(view.table, split) as u64,
             split,
             Progress::LeftLow,
         ),
         Progress::LeftLow => {
-            let low = word(memory, low_at(split.old));
+            let low = word(view.memory, low_at(split.old));
             let next = if split.right == 0 {
                 Progress::Copying { slot: 0 }
             } else {
@@ -231,7 +228,7 @@ fn split_step_at<M: KeptMemory, K: KeyKind>(
         Progress::RightNext => store(
             runner,
             next_at(split.right),
-            next_of_old(table, split) as u64,
+            next_of_old(view.table, split) as u64,
             split,
             Progress::RightLow,
         ),
@@ -242,11 +239,11 @@ fn split_step_at<M: KeptMemory, K: KeyKind>(
             split,
             Progress::Copying { slot: 0 },
         ),
-        Progress::Copying { slot } => copy_next(memory, table, runner, split, slot),
+        Progress::Copying { slot } => copy_next(view, runner, split, slot),
         Progress::CopyingValue { slot, key, word } => {
             let at = value_at(
-                new_page::<K>(split, key),
-                count_in_new_page::<K>(split, key),
+                view.new_page(split, key),
+                count_in_new_page(view, split, key),
             );
             store(
                 runner,
@@ -258,16 +255,16 @@ fn split_step_at<M: KeptMemory, K: KeyKind>(
         }
         Progress::CopyingKey { slot, key } => {
             let at = key_at(
-                new_page::<K>(split, key),
-                count_in_new_page::<K>(split, key),
+                view.new_page(split, key),
+                count_in_new_page(view, split, key),
             );
             Move::splits(
                 runner,
                 Access::Store(at, key),
-                TableNext::Go(with_copy::<K>(split, slot, key)),
+                TableNext::Go(with_copy(view, split, slot, key)),
             )
         }
-        Progress::Syncing { slot } => sync_next(memory, runner, split, slot),
+        Progress::Syncing { slot } => sync_next(view.memory, runner, split, slot),
         Progress::SyncingNew { slot, old } => {
             let copy = split.copy_at(slot);
             let access = Access::Load(value_at(copy.page, copy.slot));
@@ -287,28 +284,23 @@ fn split_step_at<M: KeptMemory, K: KeyKind>(
         Progress::Linking => {
             let link = store(
                 runner,
-                link_word(table, split),
+                link_word(view.table, split),
                 split.left as u64,
                 split,
                 Progress::Finishing,
             );
-            unless_pending::<M, K>(memory, table, split, link)
+            unless_pending(view, split, link)
         }
         Progress::Finishing => {
             let finish = Move::splits(runner, Access::Nothing, TableNext::Finish(split));
-            unless_pending::<M, K>(memory, table, split, finish)
+            unless_pending(view, split, finish)
         }
     }
 }
 
 // One step of the split.
-pub fn split_step<M: KeptMemory, K: KeyKind>(
-    memory: &M,
-    table: &Table,
-    runner: usize,
-    split: Split,
-) -> Move
-    ensures { result ≡ split_moves K.KeyKind.before (M.KeptMemory.words memory.now) table.now runner split }
+pub fn split_step<M: KeptMemory, K: KeyKind>(view: &View<M, K>, runner: usize, split: Split) -> Move
+    ensures { result ≡ split_moves K.before (M.words view.now.memory.now) view.now.table.now runner split }
 {
-    split_step_at::<M, K>(memory, table, runner, split, split.progress)
+    split_step_at(view, runner, split, split.progress)
 }

@@ -1,15 +1,7 @@
--- Counts, ranks and the split key, one key on: the steps and the ends of the loops over a page's keys.
+-- Ranks and the split key, one key on: the steps and the ends of the loops over a page's keys.
 use Rattle.std.proofs.Common.{◌≡◌, ℕ, ◌+◌, ◌<◌, ◌≤◌, Bool, cond, not, ◌&&◌, eqb, List, length, get_or, drop}
 use Rattle.std.proofs.lemmas.List.{at_drop_more, at_drop_all}
-use Rattle.protocol.specs.Locate.{key_count, rank, ranked}
-
-pub count_more : (ks : List ℕ) (i : ℕ) → i < length ks → key_count (drop i ks) ≡ cond (eqb (get_or ks i 0) 0) 0 1 + key_count (drop (i + 1) ks)
-unfolding key_count
-count_more ks i h = at_drop_more key_count ks i 0 h
-
-pub count_all : (ks : List ℕ) (i : ℕ) → length ks ≤ i → key_count (drop i ks) ≡ 0
-unfolding key_count
-count_all ks i h = at_drop_all key_count ks i h
+use Rattle.protocol.specs.Locate.{rank, ranked}
 
 pub rank_more : (before : ℕ → ℕ → Bool) (k : ℕ) (ks : List ℕ) (i : ℕ) → i < length ks →
     rank before k (drop i ks) ≡ cond (not (eqb (get_or ks i 0) 0) && before (get_or ks i 0) k) 1 0 + rank before k (drop (i + 1) ks)

@@ -1,5 +1,6 @@
 -- Locating: where a key belongs, and how a split is started.
-use Rattle.std.specs.Prelude.{ℕ, ◌+◌, ◌-◌, ◌/◌, ◌%◌, Bool, false, cond, not, ◌&&◌, ◌||◌, List, [], ◌∷◌, replicate, Some, None, Option, ◌==◌, nat_le, nat_lt}
+use Rattle.std.specs.List.{range_with_len}
+use Rattle.std.specs.Prelude.{ℕ, ◌+◌, ◌-◌, ◌/◌, ◌%◌, Bool, false, cond, not, ◌&&◌, ◌||◌, List, [], ◌∷◌, count_by, map, replicate, Some, None, Option, ◌==◌, nat_le, nat_lt}
 use Rattle.protocol.specs.declared.numbers.Operation.{Operation}
 use Rattle.protocol.specs.declared.numbers.Operation.TheVariants.{Enter, Change, Remove, Look}
 use Rattle.protocol.specs.declared.numbers.Answer.TheVariants.{AlreadyThere, NoRoom}
@@ -25,14 +26,11 @@ live_key ws bits p s = cond (committed bits s) (word ws (key_at p s)) 0
 
 -- The keys of a page's eight slots; only nonzero ones count.
 abbrev pub live_keys : List ℕ → ℕ → ℕ → List ℕ
-live_keys ws bits p =
-    live_key ws bits p 0 ∷ live_key ws bits p 1 ∷ live_key ws bits p 2 ∷ live_key ws bits p 3
-    ∷ live_key ws bits p 4 ∷ live_key ws bits p 5 ∷ live_key ws bits p 6 ∷ live_key ws bits p 7 ∷ []
+live_keys ws bits p = map (live_key ws bits p) (range_with_len 0 8)
 
 -- How many keys there are.
-unfoldable pub key_count : List ℕ → ℕ
-key_count [] = 0
-key_count (k ∷ ks) = cond (k == 0) 0 1 + key_count ks
+abbrev pub key_count : List ℕ → ℕ
+key_count ks = count_by (λ k. not (k == 0)) ks
 
 -- A key's rank is the number of keys before it.
 unfoldable pub rank : (ℕ → ℕ → Bool) → ℕ → List ℕ → ℕ

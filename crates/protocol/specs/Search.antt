@@ -1,5 +1,6 @@
 -- What a step reads before it acts: key words, low words and the table.
 use Rattle.std.specs.Prelude.{ℕ, zero, suc, ◌+◌, ◌-◌, Bool, true, false, cond, not, ◌&&◌, ◌||◌, List, Some, None, Option, ◌==◌}
+pub use Rattle.std.specs.Option.{is_some}
 use Rattle.protocol.specs.declared.table.Split.{Split}
 use Rattle.protocol.specs.declared.table.Table.{Table}
 use Rattle.protocol.specs.Layout.{word, low_at, key_at}
@@ -9,10 +10,6 @@ use Rattle.protocol.specs.Fields.{page_at, runner_at, pending_on, committed, cop
 unfoldable pub first_from : (ℕ → Bool) → ℕ → ℕ → Option ℕ
 first_from f i zero = None
 first_from f i (suc n) = cond (f i) (Some i) (first_from f (i + 1) n)
-
-abbrev pub is_some : {A : Type 0} → Option A → Bool
-is_some (Some x) = true
-is_some None = false
 
 -- Whether a slot, if committed, holds the key.
 abbrev pub holds : List ℕ → ℕ → ℕ → ℕ → ℕ → Bool

@@ -2,6 +2,8 @@
 ghost use Rattle.std.specs.Prelude.{◌≡◌};
 ghost use Rattle.protocol.specs.Fields.{idle_runner, runner_at, with_runner, page_at, with_page, held, activity as stage_activity, pending_on, phase as progress_phase, in_phase, standing_in, standing as page_standing, not_copied, copy_at};
 ghost use Rattle.protocol.specs.Make.{bare_table};
+ghost use Rattle.protocol.specs.Search.{first_from, is_some, first_pending, precedes, preceding};
+ghost use Rattle.protocol.specs.Locate.{holds_page};
 
 use crate::numbers::Operation;
 use crate::table::{
@@ -81,11 +83,10 @@ impl Split {
     pub fn copy_at(&self, slot: u8) -> NewSlot
         ensures { result ≡ copy_at self.now slot }
     {
-        if slot < 8 {
-            self.copies[slot as usize]
-        } else {
-            NewSlot { page: 0, slot: 0 }
-        }
+        self.copies
+            .get(slot as usize)
+            .copied()
+            .unwrap_or(NewSlot { page: 0, slot: 0 })
     }
 }
 
@@ -103,14 +104,8 @@ fn standing_in(split: Option<Split>, page: u8) -> Standing
     ensures { result ≡ standing_in split page }
 {
     match split {
-        Some(split) => {
-            if split.old == page {
-                standing_in_phase(split, split.progress.phase())
-            } else {
-                Standing::Whole
-            }
-        }
-        None => Standing::Whole,
+        Some(split) if split.old == page => standing_in_phase(split, split.progress.phase()),
+        _ => Standing::Whole,
     }
 }
 
@@ -135,17 +130,14 @@ impl Table {
     pub fn runner_at(&self, i: usize) -> Runner
         ensures { result ≡ runner_at self.now i }
     {
-        if i < 8 {
-            self.runners[i]
-        } else {
-            Runner::idle()
-        }
+        self.runners.get(i).copied().unwrap_or(Runner::idle())
     }
 
     pub fn set_runner(&mut self, i: usize, runner: Runner)
         ensures { self.new ≡ with_runner self.old i runner }
     {
-        if i < 8 {
+        // Not `get_mut`, after which a proof knows no element of an array.
+        if i < self.runners.len() {
             self.runners[i] = runner;
         }
     }
@@ -153,19 +145,48 @@ impl Table {
     pub fn page_at(&self, page: u8) -> PageRow
         ensures { result ≡ page_at self.now page }
     {
-        if page < 65 {
-            self.pages[page as usize]
-        } else {
-            PageRow::none()
-        }
+        self.pages
+            .get(page as usize)
+            .copied()
+            .unwrap_or(PageRow::none())
     }
 
     pub fn set_page(&mut self, page: u8, row: PageRow)
         ensures { self.new ≡ with_page self.old page row }
     {
-        if page < 65 {
+        // Not `get_mut`, as above.
+        if (page as usize) < self.pages.len() {
             self.pages[page as usize] = row;
         }
+    }
+
+    // The lowest runner that is pending on the page.
+    pub fn lowest_pending(&self, page: u8) -> Option<usize>
+        ensures { result ≡ first_pending self.now page }
+    {
+        (0..8).find(|i| self.runner_at(*i).stage.is_pending_on(page))
+    }
+
+    // The listed page right before the page, none for the first.
+    pub fn preceding(&self, page: u8) -> Option<u8>
+        ensures { result ≡ preceding self.now page }
+    {
+        (1..65).find(|before| self.precedes(*before, page))
+    }
+
+    // Whether a page is listed right before another.
+    fn precedes(&self, before: u8, page: u8) -> bool
+        ensures { result ≡ precedes self.now page before }
+    {
+        let row = self.page_at(before);
+        row.listed && row.next == page
+    }
+
+    // Whether a runner holds the page.
+    pub fn is_held(&self, page: u8) -> bool
+        ensures { result ≡ is_some (first_from (holds_page self.now page) 0 8) }
+    {
+        (0..8).any(|i| self.runner_at(i).stage.held() == page)
     }
 
     // How a page stands to the list and the split.

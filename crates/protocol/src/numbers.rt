@@ -1,8 +1,13 @@
 // What a runner is asked to do, what it is answered, and why a call is sent back: each with its number.
-ghost use Rattle.std.specs.Prelude.{◌≡◌};
+ghost use Rattle.std.specs.Prelude.{◌≡◌, ◌++◌, Some, codes, decimal};
+ghost use Rattle.std.specs.Option.{ok_or};
 ghost use Rattle.protocol.specs.Numbers.{operation_number, operation_of, answer_number, refusal_number};
+ghost use Rattle.protocol.specs.declared.numbers.Refusal.TheVariants.{NoSuchOperation};
 
-#[derive(Clone, Copy)]
+use std::error::Error;
+use std::fmt;
+
+#[derive(Clone, Copy, PartialEq, Eq, Debug)]
 pub enum Operation {
     Enter = 1,
     Change = 2,
@@ -16,22 +21,38 @@ impl Operation {
     {
         self as u8
     }
+}
 
-    // The operation of a number, if it has one.
-    pub fn of(number: u32) -> Option<Operation>
-        ensures { result ≡ operation_of number }
-    {
+// The operation of a number, if it has one.
+impl TryFrom<u32> for Operation {
+    type Error = Refusal;
+
+    ghost try_from_gives = { λ n r. r ≡ ok_or (operation_of n) NoSuchOperation };
+
+    fn try_from(number: u32) -> Result<Operation, Refusal> {
         match number {
-            1 => Some(Operation::Enter),
-            2 => Some(Operation::Change),
-            3 => Some(Operation::Remove),
-            4 => Some(Operation::Look),
-            _ => None,
+            1 => Ok(Operation::Enter),
+            2 => Ok(Operation::Change),
+            3 => Ok(Operation::Remove),
+            4 => Ok(Operation::Look),
+            _ => Err(Refusal::NoSuchOperation),
         }
     }
 }
 
-#[derive(Clone, Copy)]
+// As a script writes it.
+impl fmt::Display for Operation {
+    fn fmt<W: fmt::Write>(&self, f: &mut fmt::Formatter<W>) -> fmt::Result {
+        f.write_str(match self {
+            Operation::Enter => "enter",
+            Operation::Change => "change",
+            Operation::Remove => "remove",
+            Operation::Look => "look",
+        })
+    }
+}
+
+#[derive(Clone, Copy, PartialEq, Eq, Debug)]
 pub enum Answer {
     Done = 0,
     AlreadyThere = 1,
@@ -47,7 +68,7 @@ impl Answer {
     }
 }
 
-#[derive(Clone, Copy)]
+#[derive(Clone, Copy, PartialEq, Eq, Debug)]
 pub enum Refusal {
     // the row has not 1 + 18 N words, N from 2 to 64
     WrongLength = 1,
@@ -81,3 +102,14 @@ impl Refusal {
         self as u8
     }
 }
+
+impl fmt::Display for Refusal {
+    ghost output = { λ r. Some (codes "refused " ++ decimal (refusal_number r)) };
+
+    fn fmt<W: fmt::Write>(&self, f: &mut fmt::Formatter<W>) -> fmt::Result {
+        let number = self.number();
+        write!(f, "refused {number}")
+    }
+}
+
+impl Error for Refusal {}

@@ -79,6 +79,13 @@ pub struct Runner {
     pub stage: Stage,
 }
 
+// Whose step it is: the runner's number, from 0, and its record.
+#[derive(Clone, Copy)]
+pub struct Turn {
+    pub index: usize,
+    pub runner: Runner,
+}
+
 // A page as the table sees it: whether it is in the list, the page after it there (0 at the end), how many of its slots
 // are taken, and a bit for each committed slot.
 #[derive(Clone, Copy)]

@@ -2,8 +2,7 @@
 #![tactic(auto)]
 
 mod search;
+mod view;
 
-pub use search::{
-    covering_page, find_slot, goes_right, lowest_pending, new_page, new_slot, next_live,
-    next_standing, pages_of, preceding_page, word,
-};
+pub use search::{find_slot, next_live, next_standing, pages_of, word};
+pub use view::View;

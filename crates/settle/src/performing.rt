@@ -18,9 +18,8 @@ pub fn perform<M: KeptMemory>(memory: &mut M, access: Access) -> Outcome
             let _ = memory.store(at, word);
             Outcome::Nothing
         }
-        Access::Swap(at, expected, new) => match memory.swap(at, expected, new) {
-            Ok(written) => Outcome::Swapped(written),
-            Err(_) => Outcome::Swapped(false),
-        },
+        Access::Swap(at, expected, new) => {
+            Outcome::Swapped(memory.swap(at, expected, new).unwrap_or(false))
+        }
     }
 }

@@ -7,7 +7,6 @@ use plan::{slot_after, with_progress};
 use protocol::moves::{Move, Outcome, RunnerNext, TableNext};
 use protocol::numbers::Answer;
 use protocol::table::{PageRow, Progress, Runner, Split, Stage, Table};
-use search::preceding_page;
 use values::value_word::{is_marked, is_same, value_of};
 
 fn loaded_word(outcome: Outcome) -> u64
@@ -142,7 +141,7 @@ fn finish_split(table: &mut Table, split: Split)
     ensures { table.new ≡ finished table.old split }
 {
     let after = table.page_at(split.old).next;
-    let before = preceding_page(table, split.old);
+    let before = table.preceding(split.old);
     list_new_pages(table, split, after);
     link_left(table, split.left, before);
     table.set_page(split.old, PageRow::none());

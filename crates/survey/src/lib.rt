@@ -3,4 +3,4 @@
 
 mod reading;
 
-pub use reading::{size_refusal, survey};
+pub use reading::{check_size, survey};

@@ -1,6 +1,6 @@
 // The table that a rebuild finds in the row, which is checked whole and not written.
-ghost use Rattle.std.specs.Prelude.{◌≡◌, ℕ, ◌<◌, ◌≤◌, Bool, Ok, Err};
-ghost use Rattle.protocol.specs.Rebuild.{listing, chain_from, chained, low_before, low_rises, lows_from, lows_right, upper, in_range, first_at, placed, tallied, slots_from, page_tally, with_tally, page_surveyed, pages_from, surveyed_list, surveyed, size_refusal};
+ghost use Rattle.std.specs.Prelude.{◌≡◌, ℕ, ◌<◌, ◌≤◌, Bool, Ok, Err, Some, None};
+ghost use Rattle.protocol.specs.Rebuild.{listing, chain_from, chained, low_before, low_rises, lows_from, lows_right, upper, in_range, placed, tallied, slots_from, page_tally, with_tally, page_surveyed, pages_from, surveyed_list, surveyed, size_refusal};
 ghost use Rattle.protocol.specs.Layout.{page_count};
 
 use keys::kind::KeyKind;
@@ -8,7 +8,7 @@ use memory::kept::KeptMemory;
 use protocol::layout::{key_at, low_at, next_at, value_at};
 use protocol::numbers::Refusal;
 use protocol::table::{PageRow, Table, Tally};
-use search::{find_slot, pages_of, word};
+use search::{View, find_slot, pages_of, word};
 use values::value_word::number_of;
 
 // The page stands in the list before `next`.
@@ -16,15 +16,7 @@ fn with_listed(table: Table, page: u8, next: u8) -> Table
     ensures { result ≡ listing table page next }
 {
     let mut table = table;
-    table.set_page(
-        page,
-        PageRow {
-            listed: true,
-            next,
-            taken: 0,
-            committed: 0,
-        },
-    );
+    table.set_page(page, PageRow::filled(next, 0));
     table
 }
 
@@ -70,24 +62,25 @@ fn low_comes_before<K: KeyKind>(low: u64, key: u64) -> bool
 }
 
 // Whether the low of the page after is a key, and after the page's own.
-fn does_low_rise<M: KeptMemory, K: KeyKind>(memory: &M, page: u8, next: u8) -> bool
-    ensures { result ≡ low_rises K.KeyKind.key K.KeyKind.before (M.KeptMemory.words memory.now) page next }
+fn does_low_rise<M: KeptMemory, K: KeyKind>(view: &View<M, K>, page: u8, next: u8) -> bool
+    ensures { result ≡ low_rises K.key K.before (M.words view.now.memory.now) page next }
 {
-    let low = word(memory, low_at(next));
-    K::is_key(low) && low_comes_before::<K>(word(memory, low_at(page)), low)
+    let low = word(view.memory, low_at(next));
+    K::is_key(low) && low_comes_before::<K>(word(view.memory, low_at(page)), low)
 }
 
 // Whether the lows after the page are keys, each after the one before.
-fn lows_rise<M: KeptMemory, K: KeyKind>(memory: &M, table: &Table, first: u8) -> bool
-    ensures { result ≡ lows_from K.KeyKind.key K.KeyKind.before (M.KeptMemory.words memory.now) table.now first 64 }
+#[tactic(auto, using(protocol::proofs::Rebuilds::lows_more, protocol::proofs::Rebuilds::lows_none))]
+fn lows_rise<M: KeptMemory, K: KeyKind>(view: &View<M, K>, first: u8) -> bool
+    ensures { result ≡ lows_from K.key K.before (M.words view.now.memory.now) view.now.table.now first 64 }
 {
     let mut page = first;
     for _i in 0..64u8 {
-        let next = table.page_at(page).next;
+        let next = view.table.page_at(page).next;
         if next == 0 {
             return true;
         }
-        if !does_low_rise::<M, K>(memory, page, next) {
+        if !does_low_rise(view, page, next) {
             return false;
         }
         page = next;
@@ -95,47 +88,45 @@ fn lows_rise<M: KeptMemory, K: KeyKind>(memory: &M, table: &Table, first: u8) ->
     true
 }
 
-fn are_lows_right<M: KeptMemory, K: KeyKind>(memory: &M, table: &Table) -> bool
-    ensures { result ≡ lows_right K.KeyKind.key K.KeyKind.before (M.KeptMemory.words memory.now) table.now }
+fn are_lows_right<M: KeptMemory, K: KeyKind>(view: &View<M, K>) -> bool
+    ensures { result ≡ lows_right K.key K.before (M.words view.now.memory.now) view.now.table.now }
 {
-    word(memory, low_at(table.first)) == 0 && lows_rise::<M, K>(memory, table, table.first)
+    let first = view.table.first;
+    word(view.memory, low_at(first)) == 0 && lows_rise(view, first)
 }
 
 // The low of the page after, 0 if there is none.
 fn upper_low<M: KeptMemory>(memory: &M, table: &Table, page: u8) -> u64
     ensures { result ≡ upper (M.KeptMemory.words memory.now) table.now page }
 {
-    let next = table.page_at(page).next;
-    if next == 0 {
-        0
-    } else {
-        word(memory, low_at(next))
+    match table.page_at(page).next {
+        0 => 0,
+        next => word(memory, low_at(next)),
     }
 }
 
-fn is_in_range<K: KeyKind>(low: u64, high: u64, key: u64) -> bool
-    ensures { result ≡ in_range K.KeyKind.before low high key }
-{
-    (low == 0 || !K::comes_before(key, low)) && (high == 0 || K::comes_before(key, high))
+// The keys that a page covers: from its low on, and up to the next page's low; 0 bounds nothing.
+#[derive(Clone, Copy)]
+struct Bounds {
+    low: u64,
+    high: u64,
 }
 
-fn is_first_at(found: Option<u8>, slot: u8) -> bool
-    ensures { result ≡ first_at found slot }
-{
-    match found {
-        Some(first) => first == slot,
-        None => false,
+impl Bounds {
+    fn holds<K: KeyKind>(self, key: u64) -> bool
+        ensures { result ≡ in_range K.KeyKind.before self.low self.high key }
+    {
+        (self.low == 0 || !K::comes_before(key, self.low))
+            && (self.high == 0 || K::comes_before(key, self.high))
     }
 }
 
 // Whether a slot's word is a key, in its page's range, and not earlier in the page.
-fn is_placed<M: KeptMemory, K: KeyKind>(memory: &M, low: u64, high: u64, page: u8, slot: u8) -> bool
-    ensures { result ≡ placed K.KeyKind.key K.KeyKind.before (M.KeptMemory.words memory.now) low high page slot }
+fn is_placed<M: KeptMemory, K: KeyKind>(memory: &M, bounds: Bounds, page: u8, slot: u8) -> bool
+    ensures { result ≡ placed K.KeyKind.key K.KeyKind.before (M.KeptMemory.words memory.now) bounds.low bounds.high page slot }
 {
     let key = word(memory, key_at(page, slot));
-    K::is_key(key)
-        && is_in_range::<K>(low, high, key)
-        && is_first_at(find_slot(memory, 255, page, key), slot)
+    K::is_key(key) && bounds.holds::<K>(key) && find_slot(memory, 255, page, key) == Some(slot)
 }
 
 // One more slot with a key.
@@ -153,12 +144,11 @@ fn with_slot(tally: Tally, slot: u8, number: u32) -> Tally
 // Judges and tallies the slots of a page.
 fn survey_slots<M: KeptMemory, K: KeyKind>(
     memory: &M,
-    low: u64,
-    high: u64,
+    bounds: Bounds,
     page: u8,
     last: u32,
 ) -> Result<Tally, Refusal>
-    ensures { result ≡ slots_from K.KeyKind.key K.KeyKind.before (M.KeptMemory.words memory.now) low high page (record { taken = 0; committed = 0; last = last }) 0 8 }
+    ensures { result ≡ slots_from K.KeyKind.key K.KeyKind.before (M.KeptMemory.words memory.now) bounds.low bounds.high page (record { taken = 0; committed = 0; last = last }) 0 8 }
 {
     let mut tally = Tally {
         taken: 0,
@@ -169,7 +159,7 @@ fn survey_slots<M: KeptMemory, K: KeyKind>(
         if word(memory, key_at(page, slot)) == 0 {
             continue;
         }
-        if !is_placed::<M, K>(memory, low, high, page, slot) {
+        if !is_placed::<M, K>(memory, bounds, page, slot) {
             return Err(Refusal::MisplacedKey);
         }
         let number = number_of(word(memory, value_at(page, slot)));
@@ -205,9 +195,11 @@ fn survey_page<M: KeptMemory, K: KeyKind>(
 ) -> Result<Table, Refusal>
     ensures { result ≡ page_surveyed K.KeyKind.key K.KeyKind.before (M.KeptMemory.words memory.now) table page }
 {
-    let low = word(memory, low_at(page));
-    let high = upper_low(memory, &table, page);
-    let tally = survey_slots::<M, K>(memory, low, high, page, table.last)?;
+    let bounds = Bounds {
+        low: word(memory, low_at(page)),
+        high: upper_low(memory, &table, page),
+    };
+    let tally = survey_slots::<M, K>(memory, bounds, page, table.last)?;
     Ok(with_page_tally(table, page, tally))
 }
 
@@ -232,32 +224,30 @@ fn survey_list<M: KeptMemory, K: KeyKind>(memory: &M, count: u8) -> Result<Table
     ensures { result ≡ surveyed_list K.KeyKind.key K.KeyKind.before (M.KeptMemory.words memory.now) (chained (M.KeptMemory.words memory.now) count) }
 {
     let table = follow_head(memory, count)?;
-    if !are_lows_right::<M, K>(memory, &table) {
+    if !are_lows_right::<M, K>(&View::new(memory, &table)) {
         return Err(Refusal::WrongLow);
     }
     survey_pages::<M, K>(memory, table)
 }
 
-// Why a row or a count of runners is not taken.
-pub fn size_refusal<M: KeptMemory>(memory: &M, runners: u32) -> Option<Refusal>
-    ensures { result ≡ size_refusal (M.KeptMemory.words memory.now) runners }
+// Refused where the row or the count of runners is not taken.
+pub fn check_size<M: KeptMemory>(memory: &M, runners: u32) -> Result<(), Refusal>
+    ensures { elim result [ Ok _ ↦ size_refusal (M.KeptMemory.words memory.now) runners ≡ None | Err e ↦ size_refusal (M.KeptMemory.words memory.now) runners ≡ Some e ] }
 {
     let count = memory.count();
     if count < 37 || (count - 1) % 18 != 0 || (count - 1) / 18 > 64 {
-        return Some(Refusal::WrongLength);
+        return Err(Refusal::WrongLength);
     }
-    if runners < 1 || runners > 8 {
-        return Some(Refusal::WrongCount);
+    if !(1..=8).contains(&runners) {
+        return Err(Refusal::WrongCount);
     }
-    None
+    Ok(())
 }
 
 // The table that a rebuild for some runners would set.
 pub fn survey<M: KeptMemory, K: KeyKind>(memory: &M, runners: u32) -> Result<Table, Refusal>
     ensures { result ≡ surveyed K.KeyKind.key K.KeyKind.before (M.KeptMemory.words memory.now) runners }
 {
-    if let Some(refusal) = size_refusal(memory, runners) {
-        return Err(refusal);
-    }
+    check_size(memory, runners)?;
     survey_list::<M, K>(memory, runners as u8)
 }

@@ -13,6 +13,6 @@ use Rattle.worked.proofs.example_count.Goals as goal
 pub returns : goal.returns
 unfolding examples given told steps page_pairs list_pairs
     plate.bytes_good plate.word_of plate.text_of plate.text_before
-    search.first_from search.cover_from locate.key_count locate.rank locate.ranked
+    search.first_from search.cover_from locate.rank locate.ranked
     make.all_stored rebuild.chain_from rebuild.lows_from rebuild.slots_from rebuild.pages_from
 returns c = record { value = refl; answer = refl }

@@ -1,13 +1,7 @@
-use Rattle.std.proofs.Common.{arith, rules}
+use Rattle.std.proofs.Common.{rules, tests}
 use Rattle.protocol.specs.Search.{stands}
-use Rattle.protocol.proofs.First.{first_more, first_none}
+use Rattle.protocol.proofs.First.{found}
 use Rattle.search.proofs.search.next_standing.Goals as goal
 
-pub loop-slot-preserved : goal.loop-slot-preserved
-loop-slot-preserved g c = let e = first_more (stands (g.M.KeptMemory.words c.args.memory.now) c.args.split) c.loop-slot.slot 8 (omega arith) in search rules
-
-pub returns-then-stands : goal.returns-then-stands
-returns-then-stands g c = let e = first_more (stands (g.M.KeptMemory.words c.args.memory.now) c.args.split) c.loop-slot.slot 8 (omega arith) in search rules
-
 pub returns : goal.returns
-returns g c = let e = first_none (stands (g.M.KeptMemory.words c.args.memory.now) c.args.split) c.loop-slot.slot 8 (omega arith) in search rules
+returns g c = found _ _ _ _ (stands (g.M.KeptMemory.words c.args.memory.now) c.args.split) c.find.ensures.ran (λ x q k. search (rules, tests)) (λ x q k. search (rules, tests))

@@ -1,0 +1,7 @@
+use Rattle.std.proofs.Common.{rules, tests}
+use Rattle.protocol.specs.Search.{precedes}
+use Rattle.protocol.proofs.First.{found}
+use Rattle.protocol.proofs.table.Table.preceding.Goals as goal
+
+pub returns : goal.returns
+returns c = found _ _ _ _ (precedes c.args.self.now c.args.page) c.find.ensures.ran (λ x q k. search (rules, tests)) (λ x q k. search (rules, tests))

@@ -1,0 +1,84 @@
+// What a step sees before it acts: the row, the table, and by the kind the order of the keys.
+ghost use Rattle.std.specs.Prelude.{◌≡◌, ℕ, Bool};
+ghost use Rattle.protocol.specs.Fields.{page_at};
+ghost use Rattle.protocol.specs.Search.{found, on_right, new_page, new_slot, ends_before, covering};
+
+use crate::search::{find_slot, word};
+use keys::kind::KeyKind;
+use memory::kept::KeptMemory;
+use protocol::layout::low_at;
+use protocol::table::{Split, Table};
+use std::marker::PhantomData;
+
+#[derive(Drop)]
+pub struct View<'a, M, K> {
+    pub memory: &'a M,
+    pub table: &'a Table,
+    kind: PhantomData<K>,
+}
+
+impl<'a, M: KeptMemory, K: KeyKind> View<'a, M, K> {
+    pub fn new(memory: &'a M, table: &'a Table) -> View<'a, M, K>
+        ensures { (result.memory.now ≡ memory.now) × (result.table.now ≡ table.now) }
+    {
+        View {
+            memory,
+            table,
+            kind: PhantomData,
+        }
+    }
+
+    // The committed slot of the page that holds the key.
+    pub fn find_committed(&self, page: u8, key: u64) -> Option<u8>
+        ensures { result ≡ found (M.words self.now.memory.now) (page_at self.now.table.now page).committed page key }
+    {
+        find_slot(self.memory, self.table.page_at(page).committed, page, key)
+    }
+
+    // Whether the key's new page is the right one.
+    pub fn goes_right(&self, split: Split, key: u64) -> bool
+        ensures { result ≡ on_right K.before split key }
+    {
+        split.right != 0 && !K::comes_before(key, split.key)
+    }
+
+    // A key's page among the new ones of a split.
+    pub fn new_page(&self, split: Split, key: u64) -> u8
+        ensures { result ≡ new_page K.before split key }
+    {
+        if self.goes_right(split, key) {
+            split.right
+        } else {
+            split.left
+        }
+    }
+
+    // The key's slot in its new page, whatever is committed there.
+    pub fn new_slot(&self, split: Split, key: u64) -> Option<u8>
+        ensures { result ≡ new_slot K.before (M.words self.now.memory.now) split key }
+    {
+        find_slot(self.memory, 255, self.new_page(split, key), key)
+    }
+
+    fn ends_before(&self, key: u64, next: u8) -> bool
+        ensures { result ≡ ends_before K.before (M.words self.now.memory.now) key next }
+    {
+        next == 0 || K::comes_before(key, word(self.memory, low_at(next)))
+    }
+
+    // The listed page that covers the key.
+    #[tactic(auto, using(protocol::proofs::Cover::cover_more, protocol::proofs::Cover::cover_none))]
+    pub fn covering_page(&self, key: u64) -> u8
+        ensures { result ≡ covering K.before (M.words self.now.memory.now) self.now.table.now key }
+    {
+        let mut page = self.table.first;
+        for _i in 0..64u8 {
+            let next = self.table.page_at(page).next;
+            if self.ends_before(key, next) {
+                return page;
+            }
+            page = next;
+        }
+        page
+    }
+}
