@@ -49,7 +49,7 @@ fn enter_page<M: KeptMemory, K: KeyKind>(
 ) -> Move
     ensures { result ≡ entering_page K.before (M.words view.now.memory.now) view.now.table.now index page (found (M.words view.now.memory.now) (page_at view.now.table.now page).committed page key) }
 {
-    match view.find_committed(page, key) {
+    match view.committed(page).find(key) {
         Some(_) => Move::answers(index, Answer::AlreadyThere),
         None if view.table.page_at(page).taken < 8 => take_slot(view.table, index, page),
         None => enter_full_page(view, index, page, view.table.split),

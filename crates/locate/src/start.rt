@@ -1,36 +1,15 @@
 // How a split is started: which key parts the page, and which pages are new.
 ghost use Rattle.std.specs.Prelude.{◌≡◌, ℕ, ◌+◌, ◌<◌, ◌≤◌, Bool, true, false, length, Some, None};
-ghost use Rattle.protocol.specs.Layout.{page_count};
-ghost use Rattle.protocol.specs.Locate.{live_key, live_keys, key_count, rank, split_key, in_split, free, round_after, round_page, free_from, new_split, starts, into_one, into_second, into_two, starting_with, starting};
+ghost use Rattle.protocol.specs.Locate.{key_count, rank, split_key, in_split, free, round_after, round_page, free_from, new_split, starts, into_one, into_second, into_two, starting_with, starting};
 ghost use Rattle.protocol.specs.Moves.{answers};
 ghost use Rattle.protocol.specs.declared.numbers.Answer.TheVariants.{NoRoom};
 
 use keys::kind::KeyKind;
 use memory::kept::KeptMemory;
-use protocol::layout::key_at;
 use protocol::moves::{Access, Move, RunnerNext, TableNext};
 use protocol::numbers::Answer;
-use protocol::rows::is_set;
 use protocol::table::{NewSlot, Progress, Split, Stage, Table};
-use search::{View, pages_of, word};
-use std::array;
-
-fn key_of_live<M: KeptMemory>(memory: &M, bits: u8, page: u8, slot: u8) -> u64
-    ensures { result ≡ live_key (M.KeptMemory.words memory.now) bits page slot }
-{
-    if is_set(bits, slot) {
-        word(memory, key_at(page, slot))
-    } else {
-        0
-    }
-}
-
-// The keys of the committed slots, 0 for the others.
-fn keys_of_page<M: KeptMemory>(memory: &M, bits: u8, page: u8) -> [u64; 8]
-    ensures { result ≡ live_keys (M.KeptMemory.words memory.now) bits page }
-{
-    array::from_fn(|slot| key_of_live(memory, bits, page, slot as u8))
-}
+use search::{View, pages_of};
 
 fn count_keys(keys: &[u64]) -> usize
     ensures value { result ≡ key_count keys.now }
@@ -97,7 +76,8 @@ impl<'a> Starter<'a> {
         requires { 0 < self.now.pages }
         ensures { result ≡ round_page self.now.pages self.now.table.now.round i }
     {
-        ((self.table.round.saturating_sub(1) as u16 + i as u16) % self.pages as u16 + 1) as u8
+        let start = u16::from(self.table.round.saturating_sub(1));
+        ((start + u16::from(i)) % u16::from(self.pages) + 1) as u8
     }
 
     // The next free page, as its place in the round, from place `from` on.
@@ -198,6 +178,6 @@ fn start_with<K: KeyKind>(table: &Table, pages: u8, index: usize, page: u8, keys
 pub fn start_split<M: KeptMemory, K: KeyKind>(view: &View<M, K>, index: usize, page: u8) -> Move
     ensures { result ≡ starting K.before (M.words view.now.memory.now) view.now.table.now index page }
 {
-    let keys = keys_of_page(view.memory, view.table.page_at(page).committed, page);
+    let keys = view.committed(page).keys();
     start_with::<K>(view.table, pages_of(view.memory), index, page, &keys)
 }

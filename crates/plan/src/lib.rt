@@ -5,4 +5,3 @@ mod planning;
 mod splitting;
 
 pub use planning::plan;
-pub use splitting::{slot_after, with_progress};

@@ -2,8 +2,8 @@
 ghost use Rattle.std.specs.Prelude.{◌≡◌, Bool};
 ghost use Rattle.protocol.specs.Plan.{helping, commits, planned_at, planned};
 
-use crate::splitting::split_step;
-use act::{act, act_in_link, act_in_sync, compare, compare_swap, pend, read};
+use crate::splitting::SplitStep;
+use act::{SplitTurn, act};
 use keys::kind::KeyKind;
 use locate::locate;
 use memory::kept::KeptMemory;
@@ -18,7 +18,15 @@ fn help<M: KeptMemory, K: KeyKind>(view: &View<M, K>, turn: Turn, split: Option<
     ensures { result ≡ helping K.before (M.words view.now.memory.now) view.now.table.now turn.index turn.runner split }
 {
     match split {
-        Some(split) => split_step(view, turn.index, split),
+        Some(split) => {
+            let runner = turn.index;
+            SplitStep {
+                view,
+                runner,
+                split,
+            }
+            .plan()
+        }
         None => locate(view, turn),
     }
 }
@@ -68,18 +76,28 @@ fn plan_at<M: KeptMemory, K: KeyKind>(
         (Stage::WritingValue { .. } | Stage::WritingKey { .. } | Stage::Committing { .. }, _) =>
             Move::turns(turn.index, Stage::Helping),
         (Stage::Acting { page }, Standing::Whole | Standing::InCopy) => act(view, turn, page),
-        (Stage::Acting { page }, Standing::InSync(split)) => act_in_sync(view, split, turn, page),
-        (Stage::Acting { .. }, Standing::InLink(split)) => act_in_link(view, split, turn),
+        (Stage::Acting { page }, Standing::InSync(split)) => SplitTurn {
+            view,
+            split,
+            turn,
+        }.act_in_sync(page),
+        (Stage::Acting { .. }, Standing::InLink(split)) => SplitTurn {
+            view,
+            split,
+            turn,
+        }.act_in_link(),
         (
             Stage::PendingNew { .. }
             | Stage::PendingOld { .. }
             | Stage::PendingSwap { .. }
             | Stage::PendingRemove { .. },
             Standing::InSync(split) | Standing::InLink(split),
-        ) => pend(view, split, turn),
-        (Stage::Comparing { page, old }, Standing::InSync(split)) => compare(
-            view, split, turn, page, old,
-        ),
+        ) => SplitTurn { view, split, turn }.pend(),
+        (Stage::Comparing { page, old }, Standing::InSync(split)) => SplitTurn {
+            view,
+            split,
+            turn,
+        }.compare(page, old),
         (
             Stage::ComparingSwap {
                 page,
@@ -88,12 +106,22 @@ fn plan_at<M: KeptMemory, K: KeyKind>(
                 old,
             },
             Standing::InSync(split),
-        ) => compare_swap(view, split, turn, page, new, word, old),
-        (Stage::Comparing { .. }, Standing::InLink(split)) => read(view, split, turn),
-        (Stage::ComparingSwap { .. }, Standing::InLink(split)) => read(view, split, turn),
-        (Stage::Reading { .. }, Standing::InSync(split) | Standing::InLink(split)) => read(
-            view, split, turn,
-        ),
+        ) => SplitTurn { view, split, turn }.compare_swap(page, new, word, old),
+        (Stage::Comparing { .. }, Standing::InLink(split)) => SplitTurn {
+            view,
+            split,
+            turn,
+        }.read(),
+        (Stage::ComparingSwap { .. }, Standing::InLink(split)) => SplitTurn {
+            view,
+            split,
+            turn,
+        }.read(),
+        (Stage::Reading { .. }, Standing::InSync(split) | Standing::InLink(split)) => SplitTurn {
+            view,
+            split,
+            turn,
+        }.read(),
         _ => locate(view, turn),
     }
 }

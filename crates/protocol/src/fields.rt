@@ -1,6 +1,6 @@
 // How the table's fields are read and written: total, whatever the number.
 ghost use Rattle.std.specs.Prelude.{◌≡◌};
-ghost use Rattle.protocol.specs.Fields.{idle_runner, runner_at, with_runner, page_at, with_page, held, activity as stage_activity, pending_on, phase as progress_phase, in_phase, standing_in, standing as page_standing, not_copied, copy_at};
+ghost use Rattle.protocol.specs.Fields.{idle_runner, runner_at, with_runner, page_at, with_page, held, activity as stage_activity, pending_on, phase as progress_phase, in_phase, standing_in, standing as page_standing, not_copied, copy_at, with_progress};
 ghost use Rattle.protocol.specs.Make.{bare_table};
 ghost use Rattle.protocol.specs.Search.{first_from, is_some, first_pending, precedes, preceding};
 ghost use Rattle.protocol.specs.Locate.{holds_page};
@@ -84,9 +84,15 @@ impl Split {
         ensures { result ≡ copy_at self.now slot }
     {
         self.copies
-            .get(slot as usize)
+            .get(usize::from(slot))
             .copied()
             .unwrap_or(NewSlot { page: 0, slot: 0 })
+    }
+
+    pub fn with_progress(self, progress: Progress) -> Split
+        ensures { result ≡ with_progress self progress }
+    {
+        Split { progress, ..self }
     }
 }
 
@@ -146,7 +152,7 @@ impl Table {
         ensures { result ≡ page_at self.now page }
     {
         self.pages
-            .get(page as usize)
+            .get(usize::from(page))
             .copied()
             .unwrap_or(PageRow::none())
     }
@@ -155,8 +161,8 @@ impl Table {
         ensures { self.new ≡ with_page self.old page row }
     {
         // Not `get_mut`, as above.
-        if (page as usize) < self.pages.len() {
-            self.pages[page as usize] = row;
+        if usize::from(page) < self.pages.len() {
+            self.pages[usize::from(page)] = row;
         }
     }
 

@@ -5,7 +5,7 @@ ghost use Rattle.protocol.specs.Layout.{page_start, next_at, low_at, key_at, val
 fn page_start(page: u8) -> usize
     ensures { result ≡ page_start page }
 {
-    (18 * page as usize).saturating_sub(17)
+    (18 * usize::from(page)).saturating_sub(17)
 }
 
 pub fn next_at(page: u8) -> usize
@@ -23,11 +23,11 @@ pub fn low_at(page: u8) -> usize
 pub fn key_at(page: u8, slot: u8) -> usize
     ensures { result ≡ key_at page slot }
 {
-    page_start(page) + 2 + 2 * slot as usize
+    page_start(page) + 2 + 2 * usize::from(slot)
 }
 
 pub fn value_at(page: u8, slot: u8) -> usize
     ensures { result ≡ value_at page slot }
 {
-    page_start(page) + 3 + 2 * slot as usize
+    page_start(page) + 3 + 2 * usize::from(slot)
 }

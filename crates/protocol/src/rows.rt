@@ -2,6 +2,7 @@
 ghost use Rattle.std.specs.Prelude.{◌≡◌, ℕ, ◌-◌, ◌^◌, ◌<◌, ◌≤◌, true, false, Some, None};
 ghost use Rattle.protocol.specs.Fields.{committed, sound, row_taken, row_committed, no_page};
 ghost use Rattle.protocol.specs.Settle.{filled, with_next};
+ghost use Rattle.protocol.specs.Split.{slot_after};
 ghost use Rattle.protocol.specs.Rows.{numbers_of, numbers_taken, numbers_committed, with_numbers};
 
 use crate::record::PageRecord;
@@ -12,7 +13,7 @@ impl PageRecord {
     pub fn of(row: PageRow) -> Option<PageRecord>
         ensures { elim result [ Some p ↦ (numbers_of p ≡ (row.taken, row.committed)) × (sound row ≡ true) | None ↦ sound row ≡ false ] }
     {
-        if row.taken <= 8 && (row.committed as u16) < 1 << row.taken {
+        if row.taken <= 8 && u16::from(row.committed) < 1 << row.taken {
             Some(PageRecord {
                 taken: row.taken,
                 committed: row.committed,
@@ -125,4 +126,11 @@ pub fn is_set(bits: u8, slot: u8) -> bool
     ensures { result ≡ committed bits slot }
 {
     slot < 8 && bits >> slot & 1 == 1
+}
+
+// The slot after, and no further than 8.
+pub fn slot_after(slot: u8) -> u8
+    ensures { result ≡ slot_after slot }
+{
+    slot.saturating_add(1).min(8)
 }

@@ -1,8 +1,10 @@
 // What a step reads before it acts: key words, low words and the table.
 #![tactic(auto)]
 
-mod search;
+mod row;
+mod slots;
 mod view;
 
-pub use search::{find_slot, next_live, next_standing, pages_of, word};
+pub use row::{next_standing, pages_of, word};
+pub use slots::Slots;
 pub use view::View;

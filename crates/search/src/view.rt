@@ -1,9 +1,10 @@
 // What a step sees before it acts: the row, the table, and by the kind the order of the keys.
 ghost use Rattle.std.specs.Prelude.{◌≡◌, ℕ, Bool};
 ghost use Rattle.protocol.specs.Fields.{page_at};
-ghost use Rattle.protocol.specs.Search.{found, on_right, new_page, new_slot, ends_before, covering};
+ghost use Rattle.protocol.specs.Search.{on_right, new_page, new_slot, ends_before, covering};
 
-use crate::search::{find_slot, word};
+use crate::row::word;
+use crate::slots::Slots;
 use keys::kind::KeyKind;
 use memory::kept::KeptMemory;
 use protocol::layout::low_at;
@@ -28,11 +29,11 @@ impl<'a, M: KeptMemory, K: KeyKind> View<'a, M, K> {
         }
     }
 
-    // The committed slot of the page that holds the key.
-    pub fn find_committed(&self, page: u8, key: u64) -> Option<u8>
-        ensures { result ≡ found (M.words self.now.memory.now) (page_at self.now.table.now page).committed page key }
+    // The committed slots of the page.
+    pub fn committed(&self, page: u8) -> Slots<'a, M>
+        ensures { (result.memory.now ≡ self.now.memory.now) × (result.page ≡ page) × (result.bits ≡ (page_at self.now.table.now page).committed) }
     {
-        find_slot(self.memory, self.table.page_at(page).committed, page, key)
+        Slots::of(self.memory, page, self.table.page_at(page).committed)
     }
 
     // Whether the key's new page is the right one.
@@ -57,7 +58,7 @@ impl<'a, M: KeptMemory, K: KeyKind> View<'a, M, K> {
     pub fn new_slot(&self, split: Split, key: u64) -> Option<u8>
         ensures { result ≡ new_slot K.before (M.words self.now.memory.now) split key }
     {
-        find_slot(self.memory, 255, self.new_page(split, key), key)
+        Slots::all(self.memory, self.new_page(split, key)).find(key)
     }
 
     fn ends_before(&self, key: u64, next: u8) -> bool

@@ -3,9 +3,9 @@ ghost use Rattle.std.specs.Prelude.{◌≡◌, ℕ, Bool, None};
 ghost use Rattle.protocol.specs.Fields.{with_progress, with_stage, with_split};
 ghost use Rattle.protocol.specs.Settle.{loaded_word, did_swap, judged, weighed, stage_after, levelled, linked, with_new_pages, finished, split_goes, table_after, settled};
 
-use plan::{slot_after, with_progress};
 use protocol::moves::{Move, Outcome, RunnerNext, TableNext};
 use protocol::numbers::Answer;
+use protocol::rows::slot_after;
 use protocol::table::{PageRow, Progress, Runner, Split, Stage, Table};
 use values::value_word::{is_marked, is_same, value_of};
 
@@ -168,14 +168,14 @@ fn settle_rest(table: &mut Table, rest: TableNext, outcome: Outcome)
         TableNext::Go(split) => table.split = Some(split),
         TableNext::CopyLoaded { split, slot, key } => {
             let word = loaded_word(outcome);
-            table.split = Some(with_progress(split, Progress::CopyingValue { slot, key, word }));
+            table.split = Some(split.with_progress(Progress::CopyingValue { slot, key, word }));
         }
         TableNext::SyncLoaded { split, slot } => {
             let old = loaded_word(outcome);
-            table.split = Some(with_progress(split, Progress::SyncingNew { slot, old }));
+            table.split = Some(split.with_progress(Progress::SyncingNew { slot, old }));
         }
         TableNext::LevelLoaded { split, slot, old } => {
-            table.split = Some(with_progress(split, level(slot, old, loaded_word(outcome))));
+            table.split = Some(split.with_progress(level(slot, old, loaded_word(outcome))));
         }
         TableNext::Finish(split) => finish_split(table, split),
     }

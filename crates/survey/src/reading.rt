@@ -8,7 +8,7 @@ use memory::kept::KeptMemory;
 use protocol::layout::{key_at, low_at, next_at, value_at};
 use protocol::numbers::Refusal;
 use protocol::table::{PageRow, Table, Tally};
-use search::{View, find_slot, pages_of, word};
+use search::{Slots, View, pages_of, word};
 use values::value_word::number_of;
 
 // The page stands in the list before `next`.
@@ -29,7 +29,7 @@ fn follow<M: KeptMemory>(memory: &M, table: Table, first: u8) -> Result<Table, R
     let mut page = first;
     for _i in 0..64u8 {
         let next = word(memory, next_at(page));
-        if found.page_at(page).listed || next > pages as u64 {
+        if found.page_at(page).listed || next > u64::from(pages) {
             return Err(Refusal::BrokenChain);
         }
         found = with_listed(found, page, next as u8);
@@ -49,7 +49,7 @@ fn follow_head<M: KeptMemory>(memory: &M, count: u8) -> Result<Table, Refusal>
     if head == 0 {
         return Err(Refusal::NoHead);
     }
-    if head > pages_of(memory) as u64 {
+    if head > u64::from(pages_of(memory)) {
         return Err(Refusal::BrokenChain);
     }
     follow(memory, Table::bare(true, count, head as u8), head as u8)
@@ -126,7 +126,7 @@ fn is_placed<M: KeptMemory, K: KeyKind>(memory: &M, bounds: Bounds, page: u8, sl
     ensures { result ≡ placed K.KeyKind.key K.KeyKind.before (M.KeptMemory.words memory.now) bounds.low bounds.high page slot }
 {
     let key = word(memory, key_at(page, slot));
-    K::is_key(key) && bounds.holds::<K>(key) && find_slot(memory, 255, page, key) == Some(slot)
+    K::is_key(key) && bounds.holds::<K>(key) && Slots::all(memory, page).find(key) == Some(slot)
 }
 
 // One more slot with a key.

@@ -1,0 +1,201 @@
+// What a runner does while the page that it holds is splitting: acting, pending, comparing and reading.
+ghost use Rattle.std.specs.Prelude.{◌≡◌, Bool};
+ghost use Rattle.protocol.specs.Act.{syncing_found, acting_in_sync, reading, linking_as, acting_in_link, clearing_new, pending_new, pending_at, pending, comparing, comparing_swap};
+ghost use Rattle.protocol.specs.Search.{new_page, new_slot};
+
+use crate::acting::DONE;
+use keys::kind::KeyKind;
+use memory::kept::KeptMemory;
+use protocol::layout::{key_at, value_at};
+use protocol::moves::{Access, Move, RunnerNext};
+use protocol::numbers::{Answer, Operation};
+use protocol::table::{Split, Stage, Turn};
+use search::View;
+use values::value_word::cleared;
+
+// A turn of a runner whose page is splitting.
+#[derive(Drop)]
+pub struct SplitTurn<'v, 'a, M, K> {
+    pub view: &'v View<'a, M, K>,
+    pub split: Split,
+    pub turn: Turn,
+}
+
+impl<'v, 'a, M: KeptMemory, K: KeyKind> SplitTurn<'v, 'a, M, K> {
+    fn sync_found(&self, page: u8, slot: u8, operation: Operation) -> Move
+        ensures { result ≡ syncing_found self.now.turn.index self.now.turn.runner page slot operation }
+    {
+        let index = self.turn.index;
+        match operation {
+            Operation::Enter => Move::rests(index),
+            Operation::Change => Move::goes(
+                index,
+                Access::Store(value_at(page, slot), self.turn.runner.word),
+                Stage::PendingNew { page, slot },
+            ),
+            Operation::Remove => Move::goes(
+                index,
+                Access::Store(key_at(page, slot), 0),
+                Stage::PendingRemove { page },
+            ),
+            Operation::Look => Move::moves(
+                index,
+                Access::Load(value_at(page, slot)),
+                RunnerNext::CompareLoaded { page },
+            ),
+        }
+    }
+
+    // The page that the key goes to.
+    fn new_page(&self) -> u8
+        ensures { result ≡ new_page K.before self.now.split self.now.turn.runner.key }
+    {
+        self.view.new_page(self.split, self.turn.runner.key)
+    }
+
+    // The slot in which the key stands there, if it does.
+    fn new_slot(&self) -> Option<u8>
+        ensures { result ≡ new_slot K.before (M.words self.now.view.now.memory.now) self.now.split self.now.turn.runner.key }
+    {
+        self.view.new_slot(self.split, self.turn.runner.key)
+    }
+
+    // Stores 0 over the new key unless it is gone, and is answered.
+    fn clear_new(&self, answer: Answer) -> Move
+        ensures { result ≡ clearing_new K.before (M.words self.now.view.now.memory.now) self.now.split self.now.turn.index self.now.turn.runner.key answer }
+    {
+        match self.new_slot() {
+            Some(new) => Move::goes(
+                self.turn.index,
+                Access::Store(key_at(self.new_page(), new), 0),
+                Stage::Answered { answer, value: 0 },
+            ),
+            None => Move::answers(self.turn.index, answer),
+        }
+    }
+
+    // In the sync phase of the page.
+    pub fn act_in_sync(&self, page: u8) -> Move
+        ensures { result ≡ acting_in_sync K.before (M.words self.now.view.now.memory.now) self.now.view.now.table.now self.now.split self.now.turn.index self.now.turn.runner page }
+    {
+        match self.view.committed(page).find(self.turn.runner.key) {
+            Some(slot) => self.sync_found(page, slot, self.turn.runner.operation),
+            None => self.clear_new(Answer::NotThere),
+        }
+    }
+
+    // Loads the new word to answer its value; not there if the key is gone.
+    pub fn read(&self) -> Move
+        ensures { result ≡ reading K.before (M.words self.now.view.now.memory.now) self.now.split self.now.turn.index self.now.turn.runner }
+    {
+        match self.new_slot() {
+            Some(new) => Move::moves(
+                self.turn.index,
+                Access::Load(value_at(self.new_page(), new)),
+                RunnerNext::AnswerLoaded,
+            ),
+            None => Move::answers(self.turn.index, Answer::NotThere),
+        }
+    }
+
+    fn link_as(&self, operation: Operation) -> Move
+        ensures { result ≡ linking_as K.before (M.words self.now.view.now.memory.now) self.now.split self.now.turn.index self.now.turn.runner operation }
+    {
+        match operation {
+            Operation::Enter => Move::rests(self.turn.index),
+            Operation::Change | Operation::Remove => Move::turns(self.turn.index, Stage::Helping),
+            Operation::Look => self.read(),
+        }
+    }
+
+    // In the link phase of the page.
+    pub fn act_in_link(&self) -> Move
+        ensures { result ≡ acting_in_link K.before (M.words self.now.view.now.memory.now) self.now.split self.now.turn.index self.now.turn.runner }
+    {
+        self.link_as(self.turn.runner.operation)
+    }
+
+    fn pend_new(&self, page: u8, slot: u8) -> Move
+        ensures { result ≡ pending_new self.now.turn.index (new_page K.before self.now.split self.now.turn.runner.key) page slot (new_slot K.before (M.words self.now.view.now.memory.now) self.now.split self.now.turn.runner.key) }
+    {
+        match self.new_slot() {
+            Some(new) => Move::moves(
+                self.turn.index,
+                Access::Load(value_at(self.new_page(), new)),
+                RunnerNext::PendLoaded { page, slot, new },
+            ),
+            None => Move::answers(self.turn.index, Answer::Done),
+        }
+    }
+
+    fn pend_at(&self, stage: Stage) -> Move
+        ensures { result ≡ pending_at K.before (M.words self.now.view.now.memory.now) self.now.split self.now.turn.index self.now.turn.runner stage }
+    {
+        match stage {
+            Stage::PendingNew { page, slot } => self.pend_new(page, slot),
+            Stage::PendingOld {
+                page,
+                slot,
+                new,
+                word,
+            } => Move::moves(
+                self.turn.index,
+                Access::Load(value_at(page, slot)),
+                RunnerNext::WeighLoaded {
+                    page,
+                    slot,
+                    new,
+                    word,
+                },
+            ),
+            Stage::PendingSwap {
+                page,
+                slot,
+                new,
+                word,
+                old,
+            } => Move::moves(
+                self.turn.index,
+                Access::Swap(value_at(self.new_page(), new), word, cleared(old)),
+                RunnerNext::BySwap {
+                    written: DONE,
+                    missed: Stage::PendingNew { page, slot },
+                },
+            ),
+            Stage::PendingRemove { .. } => self.clear_new(Answer::Done),
+            _ => Move::rests(self.turn.index),
+        }
+    }
+
+    // The next step of a pending change or remove.
+    pub fn pend(&self) -> Move
+        ensures { result ≡ pending K.before (M.words self.now.view.now.memory.now) self.now.split self.now.turn.index self.now.turn.runner }
+    {
+        self.pend_at(self.turn.runner.stage)
+    }
+
+    // The first step of a comparing look.
+    pub fn compare(&self, page: u8, old: u64) -> Move
+        ensures { result ≡ comparing K.before (M.words self.now.view.now.memory.now) self.now.split self.now.turn.index self.now.turn.runner page old }
+    {
+        match self.new_slot() {
+            Some(new) => Move::moves(
+                self.turn.index,
+                Access::Load(value_at(self.new_page(), new)),
+                RunnerNext::JudgeLoaded { page, new, old },
+            ),
+            None => Move::answers(self.turn.index, Answer::NotThere),
+        }
+    }
+
+    // Its second step.
+    pub fn compare_swap(&self, page: u8, new: u8, word: u64, old: u64) -> Move
+        ensures { result ≡ comparing_swap K.before self.now.split self.now.turn.index self.now.turn.runner page new «word» old }
+    {
+        Move::goes(
+            self.turn.index,
+            Access::Swap(value_at(self.new_page(), new), word, cleared(old)),
+            Stage::Reading { page },
+        )
+    }
+}
