@@ -25,7 +25,7 @@ fn enters(table: &Table, key: u64, i: usize) -> bool
     ensures { result ≡ enters_key table.now key i }
 {
     let x = table.runner_at(i);
-    x.operation == Operation::Enter && x.key == key && matches!(x.stage.activity(), Activity::Open)
+    x.operation == Operation::Enter && x.key == key && x.stage.activity() == Activity::Open
 }
 
 // Whether some open enter has the key.
@@ -96,7 +96,7 @@ impl<M: KeptMemory, K: KeyKind> Book<M, K> {
         ensures same { self.new.memory ≡ self.old.memory }
     {
         let i = runner_index(&self.table, runner)?;
-        if !matches!(self.table.runner_at(i).stage, Stage::Idle) {
+        if self.table.runner_at(i).stage != Stage::Idle {
             return Err(Refusal::Busy);
         }
         let operation = Operation::try_from(operation)?;

@@ -6,7 +6,7 @@ use crate::numbers::Answer;
 use crate::table::{Split, Stage};
 
 // The one access of a step, by word number.
-#[derive(Clone, Copy)]
+#[derive(Clone, Copy, PartialEq, Eq, Debug)]
 pub enum Access {
     Nothing,
     Load(usize),
@@ -15,7 +15,7 @@ pub enum Access {
 }
 
 // What the access gave.
-#[derive(Clone, Copy)]
+#[derive(Clone, Copy, PartialEq, Eq, Debug)]
 pub enum Outcome {
     Nothing,
     Loaded(u64),
@@ -23,7 +23,7 @@ pub enum Outcome {
 }
 
 // What becomes of the runner.
-#[derive(Clone, Copy)]
+#[derive(Clone, Copy, PartialEq, Eq, Debug)]
 pub enum RunnerNext {
     Stay,
     Go(Stage),
@@ -59,7 +59,7 @@ pub enum RunnerNext {
 }
 
 // What becomes of the rest of the table.
-#[derive(Clone, Copy)]
+#[derive(Clone, Copy, PartialEq, Eq, Debug)]
 pub enum TableNext {
     Stay,
     // the next slot of the page is taken
@@ -81,7 +81,7 @@ pub enum TableNext {
 }
 
 // A step: `runner` (from 0) is the runner whose record changes.
-#[derive(Clone, Copy)]
+#[derive(Clone, Copy, PartialEq, Eq, Debug)]
 pub struct Move {
     pub runner: usize,
     pub access: Access,

@@ -3,7 +3,7 @@ use crate::numbers::{Answer, Operation};
 
 // Where a runner's operation stands. `page` is the page that the runner holds, `slot` a slot of it, `new` the slot of the key's new page, `word` a word
 // remembered from the new slot and `old` one remembered from the old slot.
-#[derive(Clone, Copy)]
+#[derive(Clone, Copy, PartialEq, Eq, Debug)]
 pub enum Stage {
     Idle,
     Locating,
@@ -63,7 +63,7 @@ pub enum Stage {
 }
 
 // Whether a runner has an operation: none, one under way, or one whose answer waits to be collected.
-#[derive(Clone, Copy)]
+#[derive(Clone, Copy, PartialEq, Eq, Debug)]
 pub enum Activity {
     Resting,
     Open,
@@ -71,7 +71,7 @@ pub enum Activity {
 }
 
 // What a runner is doing: `word` is the value word that an enter or a change brings, with its mark clear.
-#[derive(Clone, Copy)]
+#[derive(Clone, Copy, PartialEq, Eq, Debug)]
 pub struct Runner {
     pub operation: Operation,
     pub key: u64,
@@ -80,7 +80,7 @@ pub struct Runner {
 }
 
 // Whose step it is: the runner's number, from 0, and its record.
-#[derive(Clone, Copy)]
+#[derive(Clone, Copy, PartialEq, Eq, Debug)]
 pub struct Turn {
     pub index: usize,
     pub runner: Runner,
@@ -88,7 +88,7 @@ pub struct Turn {
 
 // A page as the table sees it: whether it is in the list, the page after it there (0 at the end), how many of its slots
 // are taken, and a bit for each committed slot.
-#[derive(Clone, Copy)]
+#[derive(Clone, Copy, PartialEq, Eq, Debug)]
 pub struct PageRow {
     pub listed: bool,
     pub next: u8,
@@ -97,14 +97,14 @@ pub struct PageRow {
 }
 
 // The slot that an old slot was copied to; page 0 if it was not copied.
-#[derive(Clone, Copy)]
+#[derive(Clone, Copy, PartialEq, Eq, Debug)]
 pub struct NewSlot {
     pub page: u8,
     pub slot: u8,
 }
 
 // The phases of a split.
-#[derive(Clone, Copy)]
+#[derive(Clone, Copy, PartialEq, Eq, Debug)]
 pub enum Phase {
     Copy,
     Sync,
@@ -112,7 +112,7 @@ pub enum Phase {
 }
 
 // The next step of a split. `slot` is a slot of the old page, `key` the key read there, `word` and `old` remembered words.
-#[derive(Clone, Copy)]
+#[derive(Clone, Copy, PartialEq, Eq, Debug)]
 pub enum Progress {
     Clearing { done: u8 },
     LeftNext,
@@ -131,7 +131,7 @@ pub enum Progress {
 
 // A split of page `old` into `left` and `right` (0 where one new page is enough) at `key`. `copies` says where each old slot went, and
 // `lefts` and `rights` how many slots the new pages have so far.
-#[derive(Clone, Copy)]
+#[derive(Clone, Copy, PartialEq, Eq, Debug)]
 pub struct Split {
     pub old: u8,
     pub left: u8,
@@ -144,7 +144,7 @@ pub struct Split {
 }
 
 // How a page stands to the list and the split.
-#[derive(Clone, Copy)]
+#[derive(Clone, Copy, PartialEq, Eq, Debug)]
 pub enum Standing {
     // listed, and not splitting
     Whole,
@@ -160,7 +160,7 @@ pub enum Standing {
 
 // `opened` says whether a book is open, `count` for how many runners. Row p of `pages` is page p's, row 0 nobody's. The list begins
 // with page `first`. New pages are sought from page `round` on; `last` is the change number drawn last.
-#[derive(Clone, Copy)]
+#[derive(Clone, Copy, PartialEq, Eq, Debug)]
 pub struct Table {
     pub opened: bool,
     pub count: u8,
@@ -173,7 +173,7 @@ pub struct Table {
 }
 
 // What a rebuild has seen of a page's slots, and the largest change number so far.
-#[derive(Clone, Copy)]
+#[derive(Clone, Copy, PartialEq, Eq, Debug)]
 pub struct Tally {
     pub taken: u8,
     pub committed: u8,
