@@ -1,6 +1,11 @@
 // What a runner does while the page that it holds is splitting: acting, pending, comparing and reading.
 ghost use Rattle.std.specs.Prelude.{◌≡◌, Bool};
 ghost use Rattle.protocol.specs.Act.{syncing_found, acting_in_sync, reading, linking_as, acting_in_link, clearing_new, pending_new, pending_at, pending, comparing, comparing_swap};
+ghost use Rattle.std.specs.Prelude.{Some, None};
+ghost use Rattle.protocol.specs.Layout.{value_at};
+ghost use Rattle.protocol.specs.Moves.{moves, answers};
+ghost use Rattle.protocol.specs.declared.moves.Access.TheVariants.{Load};
+ghost use Rattle.protocol.specs.declared.moves.RunnerNext.{RunnerNext};
 ghost use Rattle.protocol.specs.Search.{new_page, new_slot};
 
 use crate::acting::DONE;
@@ -84,18 +89,25 @@ impl<'v, 'a, M: KeptMemory, K: KeyKind> SplitTurn<'v, 'a, M, K> {
         }
     }
 
+    // Loads the new word of the key, and goes on by what `next` makes of its slot; answered at once if the key is gone.
+    fn load_new<F: FnOnce(u8) -> RunnerNext>(&self, gone: Answer, next: F) -> Move
+        requires { F.IsAlwaysCallable next }
+        ensures { elim (new_slot K.before (M.words self.now.view.now.memory.now) self.now.split self.now.turn.runner.key) [ Some n ↦ (own : RunnerNext) × F.post next n own × (result ≡ moves self.now.turn.index (Load (value_at (new_page K.before self.now.split self.now.turn.runner.key) n)) own) | None ↦ result ≡ answers self.now.turn.index gone ] }
+    {
+        match self.new_slot() {
+            Some(new) => {
+                let at = value_at(self.new_page(), new);
+                Move::moves(self.turn.index, Access::Load(at), next(new))
+            }
+            None => Move::answers(self.turn.index, gone),
+        }
+    }
+
     // Loads the new word to answer its value; not there if the key is gone.
     pub fn read(&self) -> Move
         ensures { result ≡ reading K.before (M.words self.now.view.now.memory.now) self.now.split self.now.turn.index self.now.turn.runner }
     {
-        match self.new_slot() {
-            Some(new) => Move::moves(
-                self.turn.index,
-                Access::Load(value_at(self.new_page(), new)),
-                RunnerNext::AnswerLoaded,
-            ),
-            None => Move::answers(self.turn.index, Answer::NotThere),
-        }
+        self.load_new(Answer::NotThere, |_new| RunnerNext::AnswerLoaded)
     }
 
     fn link_as(&self, operation: Operation) -> Move
@@ -118,14 +130,10 @@ impl<'v, 'a, M: KeptMemory, K: KeyKind> SplitTurn<'v, 'a, M, K> {
     fn pend_new(&self, page: u8, slot: u8) -> Move
         ensures { result ≡ pending_new self.now.turn.index (new_page K.before self.now.split self.now.turn.runner.key) page slot (new_slot K.before (M.words self.now.view.now.memory.now) self.now.split self.now.turn.runner.key) }
     {
-        match self.new_slot() {
-            Some(new) => Move::moves(
-                self.turn.index,
-                Access::Load(value_at(self.new_page(), new)),
-                RunnerNext::PendLoaded { page, slot, new },
-            ),
-            None => Move::answers(self.turn.index, Answer::Done),
-        }
+        self.load_new(
+            Answer::Done,
+            |new| RunnerNext::PendLoaded { page, slot, new },
+        )
     }
 
     fn pend_at(&self, stage: Stage) -> Move
@@ -178,14 +186,10 @@ impl<'v, 'a, M: KeptMemory, K: KeyKind> SplitTurn<'v, 'a, M, K> {
     pub fn compare(&self, page: u8, old: u64) -> Move
         ensures { result ≡ comparing K.before (M.words self.now.view.now.memory.now) self.now.split self.now.turn.index self.now.turn.runner page old }
     {
-        match self.new_slot() {
-            Some(new) => Move::moves(
-                self.turn.index,
-                Access::Load(value_at(self.new_page(), new)),
-                RunnerNext::JudgeLoaded { page, new, old },
-            ),
-            None => Move::answers(self.turn.index, Answer::NotThere),
-        }
+        self.load_new(
+            Answer::NotThere,
+            |new| RunnerNext::JudgeLoaded { page, new, old },
+        )
     }
 
     // Its second step.
