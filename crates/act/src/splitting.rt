@@ -21,12 +21,18 @@ use values::value_word::cleared;
 // A turn of a runner whose page is splitting.
 #[derive(Drop)]
 pub struct SplitTurn<'v, 'a, M, K> {
-    pub view: &'v View<'a, M, K>,
-    pub split: Split,
-    pub turn: Turn,
+    view: &'v View<'a, M, K>,
+    split: Split,
+    turn: Turn,
 }
 
 impl<'v, 'a, M: KeptMemory, K: KeyKind> SplitTurn<'v, 'a, M, K> {
+    pub fn of(view: &'v View<'a, M, K>, split: Split, turn: Turn) -> SplitTurn<'v, 'a, M, K>
+        ensures { (result.view.now ≡ view.now) × (result.split ≡ split) × (result.turn ≡ turn) }
+    {
+        SplitTurn { view, split, turn }
+    }
+
     fn sync_found(&self, page: u8, slot: u8, operation: Operation) -> Move
         ensures { result ≡ syncing_found self.now.turn.index self.now.turn.runner page slot operation }
     {

@@ -76,28 +76,22 @@ fn plan_at<M: KeptMemory, K: KeyKind>(
         (Stage::WritingValue { .. } | Stage::WritingKey { .. } | Stage::Committing { .. }, _) =>
             Move::turns(turn.index, Stage::Helping),
         (Stage::Acting { page }, Standing::Whole | Standing::InCopy) => act(view, turn, page),
-        (Stage::Acting { page }, Standing::InSync(split)) => SplitTurn {
-            view,
-            split,
-            turn,
-        }.act_in_sync(page),
-        (Stage::Acting { .. }, Standing::InLink(split)) => SplitTurn {
-            view,
-            split,
-            turn,
-        }.act_in_link(),
+        (Stage::Acting { page }, Standing::InSync(split)) => SplitTurn::of(
+            view, split, turn,
+        ).act_in_sync(page),
+        (Stage::Acting { .. }, Standing::InLink(split)) => SplitTurn::of(
+            view, split, turn,
+        ).act_in_link(),
         (
             Stage::PendingNew { .. }
             | Stage::PendingOld { .. }
             | Stage::PendingSwap { .. }
             | Stage::PendingRemove { .. },
             Standing::InSync(split) | Standing::InLink(split),
-        ) => SplitTurn { view, split, turn }.pend(),
-        (Stage::Comparing { page, old }, Standing::InSync(split)) => SplitTurn {
-            view,
-            split,
-            turn,
-        }.compare(page, old),
+        ) => SplitTurn::of(view, split, turn).pend(),
+        (Stage::Comparing { page, old }, Standing::InSync(split)) => SplitTurn::of(
+            view, split, turn,
+        ).compare(page, old),
         (
             Stage::ComparingSwap {
                 page,
@@ -106,22 +100,17 @@ fn plan_at<M: KeptMemory, K: KeyKind>(
                 old,
             },
             Standing::InSync(split),
-        ) => SplitTurn { view, split, turn }.compare_swap(page, new, word, old),
-        (Stage::Comparing { .. }, Standing::InLink(split)) => SplitTurn {
-            view,
-            split,
-            turn,
-        }.read(),
-        (Stage::ComparingSwap { .. }, Standing::InLink(split)) => SplitTurn {
-            view,
-            split,
-            turn,
-        }.read(),
-        (Stage::Reading { .. }, Standing::InSync(split) | Standing::InLink(split)) => SplitTurn {
-            view,
-            split,
-            turn,
-        }.read(),
+        ) => SplitTurn::of(view, split, turn).compare_swap(page, new, word, old),
+        // Two arms: tried as one, by `|` over cases that earlier arms took apart, the proof did not close.
+        (Stage::Comparing { .. }, Standing::InLink(split)) => SplitTurn::of(
+            view, split, turn,
+        ).read(),
+        (Stage::ComparingSwap { .. }, Standing::InLink(split)) => SplitTurn::of(
+            view, split, turn,
+        ).read(),
+        (Stage::Reading { .. }, Standing::InSync(split) | Standing::InLink(split)) => SplitTurn::of(
+            view, split, turn,
+        ).read(),
         _ => locate(view, turn),
     }
 }

@@ -179,7 +179,7 @@ impl<'v, 'a, M: KeptMemory, K: KeyKind> SplitStep<'v, 'a, M, K> {
             Some(index) => {
                 let runner = view.table.runner_at(index);
                 let turn = Turn { index, runner };
-                SplitTurn { view, split, turn }.pend()
+                SplitTurn::of(view, split, turn).pend()
             }
             None => next,
         }
