@@ -9,7 +9,7 @@ use itoa::Buffer;
 // The bytes that a line is given. The longest has 27: the words take up to 13 and the value up to 10.
 const ROOM: usize = 32;
 
-// What a line tells. The answer goes by its number: 0 done, 1 already there, 2 not there, 3 no room.
+// What a line tells. The answer goes by its number: 0 done, 1 already there, 2 not there, 3 no room. A number and no enum, since others are refused here.
 #[derive(Clone, Copy)]
 pub struct AnswerLine {
     pub runner: u32,

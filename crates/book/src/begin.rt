@@ -84,7 +84,7 @@ fn begin_with<K: KeyKind>(
 }
 
 impl<M: KeptMemory, K: KeyKind> Book<M, K> {
-    // An idle runner, counted from 1, takes on the operation of that number.
+    // An idle runner, counted from 1, takes on the operation of that number. It is a number and no Operation, since one that is none is refused here.
     pub fn begin(
         &mut self,
         runner: u32,

@@ -22,7 +22,7 @@ pub enum Outcome {
     Swapped(bool),
 }
 
-// What becomes of the runner.
+// What becomes of the runner. An enum and no closure, here and below: a move is a value, of which the definitions and the laws speak.
 #[derive(Clone, Copy, PartialEq, Eq, Debug)]
 pub enum RunnerNext {
     Stay,

@@ -103,6 +103,7 @@ impl Refusal {
     }
 }
 
+// Each refusal's enum shows itself so. One impl for all is not allowed: Display is the library's.
 impl fmt::Display for Refusal {
     ghost output = { λ r. Some (codes "refused " ++ decimal (refusal_number r)) };
 

@@ -71,7 +71,7 @@ impl PageRow {
         }
     }
 
-    // One more slot is taken.
+    // One more slot is taken. (One function for this and the next, with the change as a closure, is no plainer: its contract is longer than both.)
     pub fn with_slot_taken(self) -> PageRow
         ensures { result ≡ row_taken self }
     {

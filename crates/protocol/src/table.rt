@@ -88,6 +88,7 @@ pub struct Turn {
 
 // A page as the table sees it: whether it is in the list, the page after it there (0 at the end), how many of its slots
 // are taken, and a bit for each committed slot.
+// `next` is the row's own next word, so 0 and no Option. `listed` is a flag, since each row of the array is whole, and the laws of the list speak of both for every page.
 #[derive(Clone, Copy, PartialEq, Eq, Debug)]
 pub struct PageRow {
     pub listed: bool,
@@ -97,6 +98,7 @@ pub struct PageRow {
 }
 
 // The slot that an old slot was copied to; page 0 if it was not copied.
+// As an Option the three steps of a slot that was found copied would each have to say what they do with None.
 #[derive(Clone, Copy, PartialEq, Eq, Debug)]
 pub struct NewSlot {
     pub page: u8,
@@ -129,6 +131,7 @@ pub enum Progress {
     Finishing,
 }
 
+// `right` is 0 and no Option: the three steps that only a right page has would each have to say what they do without one.
 // A split of page `old` into `left` and `right` (0 where one new page is enough) at `key`. `copies` says where each old slot went, and
 // `lefts` and `rights` how many slots the new pages have so far.
 #[derive(Clone, Copy, PartialEq, Eq, Debug)]
@@ -160,6 +163,7 @@ pub enum Standing {
 
 // `opened` says whether a book is open, `count` for how many runners. Row p of `pages` is page p's, row 0 nobody's. The list begins
 // with page `first`. New pages are sought from page `round` on; `last` is the change number drawn last.
+// Memory is fixed: the list is kept by links in the array. A closed book has a table too: as Option<Table> each call's definition and each law would have to say what holds of None.
 #[derive(Clone, Copy, PartialEq, Eq, Debug)]
 pub struct Table {
     pub opened: bool,

@@ -72,6 +72,7 @@ impl<'a, M: KeptMemory, K: KeyKind> View<'a, M, K> {
     pub fn covering_page(&self, key: u64) -> u8
         ensures { result ≡ covering K.before (M.words self.now.memory.now) self.now.table.now key }
     {
+        // The index only bounds the walk. An iterator over the list is no plainer: it ends with the list, and this goes on to say where it stood.
         let mut page = self.table.first;
         for _i in 0..64u8 {
             let next = self.table.page_at(page).next;

@@ -25,6 +25,7 @@ fn follow<M: KeptMemory>(memory: &M, table: Table, first: u8) -> Result<Table, R
     ensures { result ≡ chain_from (M.KeptMemory.words memory.now) table first 64 }
 {
     let pages = pages_of(memory);
+    // The index only bounds the walk, which makes the list that an iterator could go over.
     let mut found = table;
     let mut page = first;
     for _i in 0..64u8 {
@@ -74,6 +75,7 @@ fn does_low_rise<M: KeptMemory, K: KeyKind>(view: &View<M, K>, page: u8, next: u
 fn lows_rise<M: KeptMemory, K: KeyKind>(view: &View<M, K>, first: u8) -> bool
     ensures { result ≡ lows_from K.key K.before (M.words view.now.memory.now) view.now.table.now first 64 }
 {
+    // The index only bounds the walk. As `all` over an iterator of pairs it is no plainer: the iterator would be this loop.
     let mut page = first;
     for _i in 0..64u8 {
         let next = view.table.page_at(page).next;
@@ -105,7 +107,7 @@ fn upper_low<M: KeptMemory>(memory: &M, table: &Table, page: u8) -> u64
     }
 }
 
-// The keys that a page covers: from its low on, and up to the next page's low; 0 bounds nothing.
+// The keys that a page covers: from its low on, and up to the next page's low; 0 bounds nothing, as it does in the row.
 #[derive(Clone, Copy)]
 struct Bounds {
     low: u64,
@@ -207,6 +209,7 @@ fn survey_page<M: KeptMemory, K: KeyKind>(
 fn survey_pages<M: KeptMemory, K: KeyKind>(memory: &M, table: Table) -> Result<Table, Refusal>
     ensures { result ≡ pages_from K.KeyKind.key K.KeyKind.before (M.KeptMemory.words memory.now) 64 (Ok table) table.first }
 {
+    // The index only bounds the walk, over the list of a table that changes under way.
     let mut found = table;
     let mut page = table.first;
     for _i in 0..64u8 {
