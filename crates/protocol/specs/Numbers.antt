@@ -1,5 +1,5 @@
 -- The numbers of operations, answers and refusals.
-use Rattle.std.specs.Prelude.{ℕ, cond, Some, None, Option, ◌==◌}
+use Rattle.std.specs.Prelude.{ℕ, cond, List, Some, None, Option, ◌==◌, codes}
 use Rattle.protocol.specs.declared.numbers.Operation.{Operation}
 use Rattle.protocol.specs.declared.numbers.Operation.TheVariants.{Enter, Change, Remove, Look}
 use Rattle.protocol.specs.declared.numbers.Answer.{Answer}
@@ -17,6 +17,13 @@ operation_number Look = 4
 -- The operation of a number; every other number has none.
 abbrev pub operation_of : ℕ → Option Operation
 operation_of n = cond (n == 1) (Some Enter) (cond (n == 2) (Some Change) (cond (n == 3) (Some Remove) (cond (n == 4) (Some Look) None)))
+
+-- How an operation is written.
+abbrev pub operation_name : Operation → List ℕ
+operation_name Enter = codes "enter"
+operation_name Change = codes "change"
+operation_name Remove = codes "remove"
+operation_name Look = codes "look"
 
 -- Done is 0, already there 1, not there 2, no room 3.
 abbrev pub answer_number : Answer → ℕ

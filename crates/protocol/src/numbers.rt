@@ -1,7 +1,7 @@
 // What a runner is asked to do, what it is answered, and why a call is sent back: each with its number.
 ghost use Rattle.std.specs.Prelude.{◌≡◌, ◌++◌, Some, codes, decimal};
 ghost use Rattle.std.specs.Option.{ok_or};
-ghost use Rattle.protocol.specs.Numbers.{operation_number, operation_of, answer_number, refusal_number};
+ghost use Rattle.protocol.specs.Numbers.{operation_number, operation_of, operation_name, answer_number, refusal_number};
 ghost use Rattle.protocol.specs.declared.numbers.Refusal.TheVariants.{NoSuchOperation};
 
 use std::error::Error;
@@ -42,6 +42,8 @@ impl TryFrom<u32> for Operation {
 
 // As a script writes it.
 impl fmt::Display for Operation {
+    ghost output = { λ o. Some (operation_name o) };
+
     fn fmt<W: fmt::Write>(&self, f: &mut fmt::Formatter<W>) -> fmt::Result {
         f.write_str(match self {
             Operation::Enter => "enter",
