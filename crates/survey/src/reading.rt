@@ -21,6 +21,7 @@ fn with_listed(table: Table, page: u8, next: u8) -> Table
 }
 
 // Follows the next words from a page on; the table has the pages so far.
+#[tactic(auto, using(protocol::proofs::Rebuilds::chain_more, protocol::proofs::Rebuilds::chain_none, crate::proofs::Walks::follow_step))]
 fn follow<M: KeptMemory>(memory: &M, table: Table, first: u8) -> Result<Table, Refusal>
     ensures { result ≡ chain_from (M.KeptMemory.words memory.now) table first 64 }
 {
@@ -144,6 +145,7 @@ fn with_slot(tally: Tally, slot: u8, number: u32) -> Tally
 }
 
 // Judges and tallies the slots of a page.
+#[tactic(auto, using(protocol::proofs::Rebuilds::slots_more, protocol::proofs::Rebuilds::slots_none))]
 fn survey_slots<M: KeptMemory, K: KeyKind>(
     memory: &M,
     bounds: Bounds,
@@ -206,6 +208,7 @@ fn survey_page<M: KeptMemory, K: KeyKind>(
 }
 
 // The pages of the list, one after the other.
+#[tactic(auto, using(protocol::proofs::Rebuilds::pages_more, protocol::proofs::Rebuilds::pages_none, crate::proofs::Walks::survey_step))]
 fn survey_pages<M: KeptMemory, K: KeyKind>(memory: &M, table: Table) -> Result<Table, Refusal>
     ensures { result ≡ pages_from K.KeyKind.key K.KeyKind.before (M.KeptMemory.words memory.now) 64 (Ok table) table.first }
 {

@@ -1,21 +1,9 @@
-use Rattle.std.proofs.Common.{sym, ◌∙◌, arith, rules}
+use Rattle.std.proofs.Common.{sym, ◌∙◌, arith}
 use Rattle.std.proofs.lemmas.Result.{err_from_is_err_and}
-use Rattle.protocol.proofs.Rebuilds.{pages_more, pages_none}
-use Rattle.survey.proofs.Walks.{survey_step, survey_refused}
+use Rattle.survey.proofs.Walks.{survey_refused}
 use Rattle.survey.proofs.reading.survey_pages.Goals as goal
-
-pub returns-then-page-eq0 : goal.returns-then-page-eq0
-returns-then-page-eq0 g c = let e = pages_more g.K.KeyKind.key g.K.KeyKind.before (g.M.KeptMemory.words c.args.memory.now) c.loop-i._i 64 c.loop-i.found c.loop-i.page (omega arith) in search rules
 
 pub returns-in_err-found : goal.returns-in_err-found
 returns-in_err-found g c =
     let p = err_from_is_err_and c.from_residual.result c.from_residual.ensures.1 in
     rw (p.1, p.2) (sym (c.loop-i.invariant ∙ survey_refused g.K.KeyKind.key g.K.KeyKind.before (g.M.KeptMemory.words c.args.memory.now) c.loop-i.found c.loop-i.page c.loop-i._i (omega arith) c.if-page-eq0.false _ (sym c.survey_page.ensures ∙ c.in_err-found.was)))
-
-pub loop-i-preserved : goal.loop-i-preserved
-loop-i-preserved g c =
-    c.loop-i.invariant
-    ∙ survey_step g.K.KeyKind.key g.K.KeyKind.before (g.M.KeptMemory.words c.args.memory.now) c.loop-i.found c.loop-i.page c.loop-i._i (omega arith) c.if-page-eq0.false _ _ (sym c.survey_page.ensures ∙ c.in_ok-found.was) (search rules)
-
-pub returns : goal.returns
-returns g c = let e = pages_none g.K.KeyKind.key g.K.KeyKind.before (g.M.KeptMemory.words c.args.memory.now) c.loop-i._i 64 c.loop-i.found c.loop-i.page (omega arith) in search rules

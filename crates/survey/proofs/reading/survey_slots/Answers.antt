@@ -1,10 +1,6 @@
 use Rattle.std.proofs.Common.{arith, rules}
-use Rattle.protocol.proofs.Rebuilds.{slots_more, slots_none}
+use Rattle.protocol.proofs.Rebuilds.{slots_more}
 use Rattle.survey.proofs.reading.survey_slots.Goals as goal
-
-pub loop-slot-preserved-then-word-eq0 : goal.loop-slot-preserved-then-word-eq0
-loop-slot-preserved-then-word-eq0 g c =
-    let e = slots_more g.K.KeyKind.key g.K.KeyKind.before (g.M.KeptMemory.words c.args.memory.now) c.args.bounds.low c.args.bounds.high c.args.page c.loop-slot.tally c.loop-slot.slot 8 (omega arith) in search rules
 
 pub returns-then-not-is_placed : goal.returns-then-not-is_placed
 returns-then-not-is_placed g c =
@@ -17,7 +13,3 @@ returns-then-number-eq0 g c =
 pub loop-slot-preserved : goal.loop-slot-preserved
 loop-slot-preserved g c =
     let e = slots_more g.K.KeyKind.key g.K.KeyKind.before (g.M.KeptMemory.words c.args.memory.now) c.args.bounds.low c.args.bounds.high c.args.page c.loop-slot.tally c.loop-slot.slot 8 (omega arith) in search rules
-
-pub returns : goal.returns
-returns g c =
-    let e = slots_none g.K.KeyKind.key g.K.KeyKind.before (g.M.KeptMemory.words c.args.memory.now) c.args.bounds.low c.args.bounds.high c.args.page c.loop-slot.tally c.loop-slot.slot 8 (omega arith) in search rules
