@@ -13,7 +13,7 @@ use Rattle.protocol.specs.declared.table.Standing.{Standing}
 use Rattle.protocol.specs.declared.table.Standing.TheVariants.{Whole, InCopy, InSync, InLink, Left}
 use Rattle.protocol.specs.declared.table.Table.{Table}
 use Rattle.protocol.specs.Layout.{word, key_at}
-use Rattle.protocol.specs.Fields.{runner_at, page_at, held, standing}
+use Rattle.protocol.specs.Fields.{runner_at, page_at, held, held_standing}
 use Rattle.protocol.specs.Search.{found, new_page, new_slot, standing_from, first_pending}
 use Rattle.laws.specs.Places.{Place, Key, Value}
 use Rattle.laws.specs.Targets.{writing_target, found_target, clearing_target, acting_target, syncing_target, acting_target_in, pending_target_at, pending_target_in, comparing_target_in, levelling_target, linking_target, split_target, helping_target, target_at}
@@ -136,4 +136,4 @@ target_on before ws t x (Reading p) u = never t (Reading p) refl
 target_on before ws t x (Answered a v) u = never t (Answered a v) refl
 
 pub splits_set_the_chain : SplitsSetTheChain
-splits_set_the_chain before ws t x = target_on before ws t x x.stage (standing t (held x.stage))
+splits_set_the_chain before ws t x = target_on before ws t x x.stage (held_standing t (held x.stage))

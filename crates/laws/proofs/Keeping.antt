@@ -12,7 +12,7 @@ use Rattle.protocol.specs.declared.table.Standing.TheVariants.{Whole, InCopy, In
 use Rattle.protocol.specs.declared.table.Table.{Table}
 use Rattle.protocol.specs.declared.moves.Move.{Move}
 use Rattle.protocol.specs.Layout.{page_count, right_length}
-use Rattle.protocol.specs.Fields.{idle_runner, runner_at, page_at, standing, held}
+use Rattle.protocol.specs.Fields.{idle_runner, runner_at, page_at, held, held_standing}
 use Rattle.protocol.specs.Search.{found, new_page, new_slot}
 use Rattle.protocol.specs.Plan.{helping, writing, acting_in, pending_in, comparing_in, comparing_swap_in, reading_in, planned_at, planned}
 use Rattle.protocol.specs.Make.{bare_table, made_table}
@@ -99,7 +99,7 @@ module _ (before : ℕ → ℕ → Bool) (ws : List ℕ) (t : Table) (r : ℕ) (
 step_kept : (before : ℕ → ℕ → Bool) (ws : List ℕ) (t : Table) (i : ℕ) → RangeKept (page_count ws) t → RangeKept (page_count ws) (table_stepped before ws t i)
 step_kept before ws t i R =
     move_kept (page_count ws) t (planned before ws t i (runner_at t i)) _ R
-    (planned_fits before ws t i (runner_at t i) (runner_at t i).stage (standing t (held (runner_at t i).stage)) R (R.runners i) (R.runners i))
+    (planned_fits before ws t i (runner_at t i) (runner_at t i).stage (held_standing t (held (runner_at t i).stage)) R (R.runners i) (R.runners i))
 
 -- the other calls
 

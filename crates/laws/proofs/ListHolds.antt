@@ -1,5 +1,5 @@
 -- What a move must bring so that the page list stays well: a runner comes to hold no new page of the split, and the split's pages stay apart.
-use Rattle.std.proofs.Common.{◌≡◌, ℕ, true, not, ◌&&◌, ◌||◌, ltb, ◌⊎◌, Some, sym, refl, ap, ◌∙◌, inl, inr, ⊎_elim}
+use Rattle.std.proofs.Common.{◌≡◌, ℕ, true, not, ◌&&◌, ◌||◌, ltb, ◌⊎◌, Some, None, Option, sym, refl, ap, ◌∙◌, inr, ⊎_elim}
 use Rattle.std.proofs.lemmas.Bool.{cond_both, both_ways}
 use Rattle.protocol.specs.declared.numbers.Answer.TheVariants.{Done}
 use Rattle.protocol.specs.declared.table.Stage.{Stage}
@@ -26,32 +26,37 @@ use Rattle.laws.proofs.Links.{links_same}
 use Rattle.laws.proofs.ListFinish.{finished_links}
 use Rattle.laws.proofs.Tables.{page_with, runner_with}
 
--- A runner that held page h may come to hold no page, a listed one, or h.
+-- A runner that held h may come to hold no page, a listed one, or what it held.
 
-abbrev pub Hold : Table → ℕ → ℕ → Type 0
-Hold t h p = (p ≡ 0) ⊎ ((listed t p ≡ true) ⊎ (p ≡ h))
+abbrev pub Hold : Table → Option ℕ → Option ℕ → Type 0
+Hold t h None = Unit {0}
+Hold t h (Some p) = (listed t p ≡ true) ⊎ (Some p ≡ h)
 
-abbrev pub OwnHolds : Table → ℕ → RunnerNext → Type 0
+pub hold_same : (t : Table) (h : Option ℕ) → Hold t h h
+hold_same t None = tt
+hold_same t (Some p) = inr refl
+
+abbrev pub OwnHolds : Table → Option ℕ → RunnerNext → Type 0
 OwnHolds t h own.Stay = Unit {0}
 OwnHolds t h (own.Go g) = Hold t h (held g)
 OwnHolds t h own.AnswerLoaded = Unit {0}
-OwnHolds t h (own.CompareLoaded p) = Hold t h p
-OwnHolds t h (own.JudgeLoaded p n o) = Hold t h p
-OwnHolds t h (own.PendLoaded p i n) = Hold t h p
-OwnHolds t h (own.WeighLoaded p i n w) = Hold t h p
+OwnHolds t h (own.CompareLoaded p) = Hold t h (Some p)
+OwnHolds t h (own.JudgeLoaded p n o) = Hold t h (Some p)
+OwnHolds t h (own.PendLoaded p i n) = Hold t h (Some p)
+OwnHolds t h (own.WeighLoaded p i n w) = Hold t h (Some p)
 OwnHolds t h (own.BySwap a b) = Hold t h (held a) × Hold t h (held b)
 
 stage_holds : (t : Table) (g : Stage) (m : RunnerNext) (o : Outcome) → OwnHolds t (held g) m → Hold t (held g) (held (stage_after g m o))
-stage_holds t g own.Stay o h = inr (inr refl)
+stage_holds t g own.Stay o h = hold_same t (held g)
 stage_holds t g (own.Go n) o h = h
-stage_holds t g own.AnswerLoaded o h = inl refl
+stage_holds t g own.AnswerLoaded o h = tt
 stage_holds t g (own.CompareLoaded p) o h = h
 stage_holds t g (own.JudgeLoaded p n old) o h =
     let w = loaded_word o in
-    cond_both (not (mark_of w) || same w old) (Answered Done (value_of w)) (ComparingSwap p n w old) (λ k. Hold t (held g) (held k)) (λ _. inl refl) (λ _. h)
+    cond_both (not (mark_of w) || same w old) (Answered Done (value_of w)) (ComparingSwap p n w old) (λ k. Hold t (held g) (held k)) (λ _. tt) (λ _. h)
 stage_holds t g (own.PendLoaded p i n) o h = h
 stage_holds t g (own.WeighLoaded p i n w) o h =
-    cond_both (same (loaded_word o) w) (Answered Done 0) (PendingSwap p i n w (loaded_word o)) (λ k. Hold t (held g) (held k)) (λ _. inl refl) (λ _. h)
+    cond_both (same (loaded_word o) w) (Answered Done 0) (PendingSwap p i n w (loaded_word o)) (λ k. Hold t (held g) (held k)) (λ _. tt) (λ _. h)
 stage_holds t g (own.BySwap a b) o h = cond_both (did_swap o) a b (λ k. Hold t (held g) (held k)) (λ _. h.0) (λ _. h.1)
 
 -- The split's pages stay apart.
@@ -81,11 +86,7 @@ unused_runner t i x p h U =
       unheld = λ j.
           ⊎_elim
           (λ s. rw s (U.unheld j))
-          (λ s. rw s.1 (λ e.
-          ⊎_elim
-          (λ z. U.real (sym e ∙ z))
-          (⊎_elim (λ l. both_ways (listed t p) U.off (rw e at l)) (λ k. U.unheld i (sym k ∙ e)))
-          h))
+          (λ s. rw s.1 (λ e. ⊎_elim (λ l. both_ways (listed t p) U.off l) (λ k. U.unheld i (sym k)) (rw e at h)))
           (runner_with t i x j);
     }
 

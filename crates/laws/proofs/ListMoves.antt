@@ -1,5 +1,5 @@
 -- The moves of every stage keep the page list well.
-use Rattle.std.proofs.Common.{◌≡◌, ℕ, Bool, eqb, List, Some, None, Option, refl, inl, inr}
+use Rattle.std.proofs.Common.{◌≡◌, ℕ, Bool, eqb, List, Some, None, Option, refl, inr}
 use Rattle.std.proofs.lemmas.Bool.{cond_both}
 use Rattle.protocol.specs.declared.numbers.Operation.{Operation}
 use Rattle.protocol.specs.declared.numbers.Operation.TheVariants.{Enter, Change, Remove, Look}
@@ -16,7 +16,7 @@ use Rattle.protocol.specs.declared.table.Standing.TheVariants.{Whole, InCopy, In
 use Rattle.protocol.specs.declared.table.Table.{Table}
 use Rattle.protocol.specs.declared.moves.Move.{Move}
 use Rattle.protocol.specs.Layout.{word, key_at}
-use Rattle.protocol.specs.Fields.{held, runner_at, page_at, standing}
+use Rattle.protocol.specs.Fields.{held, runner_at, page_at, held_standing}
 use Rattle.protocol.specs.Search.{found, new_page, new_slot, live_from, standing_from, first_pending}
 use Rattle.protocol.specs.Act.{acting_found, acting_page, syncing_found, syncing_page, clearing_slot, reading_slot, reading, linking_as, pending_new, pending_at, comparing_slot}
 use Rattle.protocol.specs.Split.{copying, syncing_slot, syncing, linking, split_step_at}
@@ -28,36 +28,36 @@ use Rattle.laws.proofs.ListStart.{locating_holds}
 -- The runner's own moves: it holds page p as before, or lets go.
 
 module _ (t : Table) (r : ℕ) where
-  -- the page that runner r holds
-  abbrev own_page : ℕ
+  -- the page that runner r holds, if any
+  abbrev own_page : Option ℕ
   own_page = held (runner_at t r).stage
 
   acting_found_holds : (x : Runner) (p i : ℕ) (o : Operation) → MoveHolds t (acting_found r x p i o)
   acting_found_holds x p i Enter = (tt, tt)
-  acting_found_holds x p i Change = (inl refl, tt)
-  acting_found_holds x p i Remove = (inl refl, tt)
+  acting_found_holds x p i Change = (tt, tt)
+  acting_found_holds x p i Remove = (tt, tt)
   acting_found_holds x p i Look = (tt, tt)
 
   acting_page_holds : (x : Runner) (p : ℕ) (o : Option ℕ) → MoveHolds t (acting_page r x p o)
-  acting_page_holds x p None = (inl refl, tt)
+  acting_page_holds x p None = (tt, tt)
   acting_page_holds x p (Some i) = acting_found_holds x p i x.operation
 
   clearing_holds : (q : ℕ) (a : Answer) (o : Option ℕ) → MoveHolds t (clearing_slot r q a o)
-  clearing_holds q a None = (inl refl, tt)
-  clearing_holds q a (Some n) = (inl refl, tt)
+  clearing_holds q a None = (tt, tt)
+  clearing_holds q a (Some n) = (tt, tt)
 
-  syncing_found_holds : (x : Runner) (p i : ℕ) (o : Operation) → p ≡ own_page → MoveHolds t (syncing_found r x p i o)
+  syncing_found_holds : (x : Runner) (p i : ℕ) (o : Operation) → Some p ≡ own_page → MoveHolds t (syncing_found r x p i o)
   syncing_found_holds x p i Enter h = (tt, tt)
-  syncing_found_holds x p i Change h = (inr (inr h), tt)
-  syncing_found_holds x p i Remove h = (inr (inr h), tt)
-  syncing_found_holds x p i Look h = (inr (inr h), tt)
+  syncing_found_holds x p i Change h = (inr h, tt)
+  syncing_found_holds x p i Remove h = (inr h, tt)
+  syncing_found_holds x p i Look h = (inr h, tt)
 
-  syncing_page_holds : (before : ℕ → ℕ → Bool) (ws : List ℕ) (s : Split) (x : Runner) (p : ℕ) (o : Option ℕ) → p ≡ own_page → MoveHolds t (syncing_page before ws s r x p o)
+  syncing_page_holds : (before : ℕ → ℕ → Bool) (ws : List ℕ) (s : Split) (x : Runner) (p : ℕ) (o : Option ℕ) → Some p ≡ own_page → MoveHolds t (syncing_page before ws s r x p o)
   syncing_page_holds before ws s x p None h = clearing_holds (new_page before s x.key) NotThere (new_slot before ws s x.key)
   syncing_page_holds before ws s x p (Some i) h = syncing_found_holds x p i x.operation h
 
   reading_slot_holds : (q : ℕ) (o : Option ℕ) → MoveHolds t (reading_slot r q o)
-  reading_slot_holds q None = (inl refl, tt)
+  reading_slot_holds q None = (tt, tt)
   reading_slot_holds q (Some n) = (tt, tt)
 
   reading_holds : (before : ℕ → ℕ → Bool) (ws : List ℕ) (s : Split) (x : Runner) → MoveHolds t (reading before ws s r x)
@@ -65,13 +65,13 @@ module _ (t : Table) (r : ℕ) where
 
   linking_as_holds : (before : ℕ → ℕ → Bool) (ws : List ℕ) (s : Split) (x : Runner) (o : Operation) → MoveHolds t (linking_as before ws s r x o)
   linking_as_holds before ws s x Enter = (tt, tt)
-  linking_as_holds before ws s x Change = (inl refl, tt)
-  linking_as_holds before ws s x Remove = (inl refl, tt)
+  linking_as_holds before ws s x Change = (tt, tt)
+  linking_as_holds before ws s x Remove = (tt, tt)
   linking_as_holds before ws s x Look = reading_holds before ws s x
 
-  pending_new_holds : (q p i : ℕ) (o : Option ℕ) → p ≡ own_page → MoveHolds t (pending_new r q p i o)
-  pending_new_holds q p i None h = (inl refl, tt)
-  pending_new_holds q p i (Some n) h = (inr (inr h), tt)
+  pending_new_holds : (q p i : ℕ) (o : Option ℕ) → Some p ≡ own_page → MoveHolds t (pending_new r q p i o)
+  pending_new_holds q p i None h = (tt, tt)
+  pending_new_holds q p i (Some n) h = (inr h, tt)
 
   pending_holds : (before : ℕ → ℕ → Bool) (ws : List ℕ) (s : Split) (x : Runner) (g : Stage) → held g ≡ own_page → MoveHolds t (pending_at before ws s r x g)
   pending_holds before ws s x Idle h = (tt, tt)
@@ -82,24 +82,24 @@ module _ (t : Table) (r : ℕ) where
   pending_holds before ws s x Helping h = (tt, tt)
   pending_holds before ws s x (Acting p) h = (tt, tt)
   pending_holds before ws s x (PendingNew p i) h = pending_new_holds (new_page before s x.key) p i (new_slot before ws s x.key) h
-  pending_holds before ws s x (PendingOld p i n w) h = (inr (inr h), tt)
-  pending_holds before ws s x (PendingSwap p i n w o) h = ((inl refl, inr (inr h)), tt)
+  pending_holds before ws s x (PendingOld p i n w) h = (inr h, tt)
+  pending_holds before ws s x (PendingSwap p i n w o) h = ((tt, inr h), tt)
   pending_holds before ws s x (PendingRemove p) h = clearing_holds (new_page before s x.key) Done (new_slot before ws s x.key)
   pending_holds before ws s x (Comparing p o) h = (tt, tt)
   pending_holds before ws s x (ComparingSwap p n w o) h = (tt, tt)
   pending_holds before ws s x (Reading p) h = (tt, tt)
   pending_holds before ws s x (Answered a v) h = (tt, tt)
 
-  comparing_slot_holds : (q p o : ℕ) (n : Option ℕ) → p ≡ own_page → MoveHolds t (comparing_slot r q p o n)
-  comparing_slot_holds q p o None h = (inl refl, tt)
-  comparing_slot_holds q p o (Some n) h = (inr (inr h), tt)
+  comparing_slot_holds : (q p o : ℕ) (n : Option ℕ) → Some p ≡ own_page → MoveHolds t (comparing_slot r q p o n)
+  comparing_slot_holds q p o None h = (tt, tt)
+  comparing_slot_holds q p o (Some n) h = (inr h, tt)
 
   writing_holds : (m : Move) (u : Standing) → MoveHolds t m → MoveHolds t (writing r m u)
   writing_holds m Whole h = h
-  writing_holds m InCopy h = (inl refl, tt)
-  writing_holds m (InSync s) h = (inl refl, tt)
-  writing_holds m (InLink s) h = (inl refl, tt)
-  writing_holds m Left h = (inl refl, tt)
+  writing_holds m InCopy h = (tt, tt)
+  writing_holds m (InSync s) h = (tt, tt)
+  writing_holds m (InLink s) h = (tt, tt)
+  writing_holds m Left h = (tt, tt)
 
 -- Split steps: the pages of the split stay what they are.
 
@@ -141,7 +141,7 @@ helping_holds before ws t r x (Some s) G h = split_step_holds before ws t r s s.
 helping_holds before ws t r x None G h = locating_holds before ws t G r x
 
 module _ (before : ℕ → ℕ → Bool) (ws : List ℕ) (t : Table) (r : ℕ) (x : Runner) (G : WellListed t) where
-  acting_in_holds : (p : ℕ) (u : Standing) → p ≡ own_page t r → MoveHolds t (acting_in before ws t r x p u)
+  acting_in_holds : (p : ℕ) (u : Standing) → Some p ≡ own_page t r → MoveHolds t (acting_in before ws t r x p u)
   acting_in_holds p Whole h = acting_page_holds t r x p (found ws (page_at t p).committed p x.key)
   acting_in_holds p InCopy h = acting_page_holds t r x p (found ws (page_at t p).committed p x.key)
   acting_in_holds p (InSync s) h = syncing_page_holds t r before ws s x p (found ws (page_at t p).committed p x.key) h
@@ -155,17 +155,17 @@ module _ (before : ℕ → ℕ → Bool) (ws : List ℕ) (t : Table) (r : ℕ) (
   pending_in_holds (InLink s) h = pending_holds t r before ws s x x.stage h
   pending_in_holds Left h = locating_holds before ws t G r x
 
-  comparing_in_holds : (p o : ℕ) (u : Standing) → p ≡ own_page t r → MoveHolds t (comparing_in before ws t r x p o u)
+  comparing_in_holds : (p o : ℕ) (u : Standing) → Some p ≡ own_page t r → MoveHolds t (comparing_in before ws t r x p o u)
   comparing_in_holds p o Whole h = locating_holds before ws t G r x
   comparing_in_holds p o InCopy h = locating_holds before ws t G r x
   comparing_in_holds p o (InSync s) h = comparing_slot_holds t r (new_page before s x.key) p o (new_slot before ws s x.key) h
   comparing_in_holds p o (InLink s) h = reading_holds t r before ws s x
   comparing_in_holds p o Left h = locating_holds before ws t G r x
 
-  comparing_swap_in_holds : (p n w o : ℕ) (u : Standing) → p ≡ own_page t r → MoveHolds t (comparing_swap_in before ws t r x p n w o u)
+  comparing_swap_in_holds : (p n w o : ℕ) (u : Standing) → Some p ≡ own_page t r → MoveHolds t (comparing_swap_in before ws t r x p n w o u)
   comparing_swap_in_holds p n w o Whole h = locating_holds before ws t G r x
   comparing_swap_in_holds p n w o InCopy h = locating_holds before ws t G r x
-  comparing_swap_in_holds p n w o (InSync s) h = (inr (inr h), tt)
+  comparing_swap_in_holds p n w o (InSync s) h = (inr h, tt)
   comparing_swap_in_holds p n w o (InLink s) h = reading_holds t r before ws s x
   comparing_swap_in_holds p n w o Left h = locating_holds before ws t G r x
 
@@ -179,9 +179,9 @@ module _ (before : ℕ → ℕ → Bool) (ws : List ℕ) (t : Table) (r : ℕ) (
   planned_at_holds : (g : Stage) (u : Standing) → held x.stage ≡ own_page t r → held g ≡ own_page t r → MoveHolds t (planned_at before ws t r x g u)
   planned_at_holds Idle u k h = (tt, tt)
   planned_at_holds Locating u k h = locating_holds before ws t G r x
-  planned_at_holds (WritingValue p i) u k h = writing_holds t r _ u (inr (inr h), tt)
-  planned_at_holds (WritingKey p i) u k h = writing_holds t r _ u (inr (inr h), tt)
-  planned_at_holds (Committing p i) u k h = writing_holds t r _ u (inl refl, tt)
+  planned_at_holds (WritingValue p i) u k h = writing_holds t r _ u (inr h, tt)
+  planned_at_holds (WritingKey p i) u k h = writing_holds t r _ u (inr h, tt)
+  planned_at_holds (Committing p i) u k h = writing_holds t r _ u (tt, tt)
   planned_at_holds Helping u k h = helping_holds before ws t r x t.split G G.apart
   planned_at_holds (Acting p) u k h = acting_in_holds p u h
   planned_at_holds (PendingNew p i) u k h = pending_in_holds u k
@@ -195,4 +195,4 @@ module _ (before : ℕ → ℕ → Bool) (ws : List ℕ) (t : Table) (r : ℕ) (
 
 pub planned_holds : (before : ℕ → ℕ → Bool) (ws : List ℕ) (t : Table) (r : ℕ) → WellListed t → MoveHolds t (planned before ws t r (runner_at t r))
 planned_holds before ws t r G =
-    planned_at_holds before ws t r (runner_at t r) G (runner_at t r).stage (standing t (held (runner_at t r).stage)) refl refl
+    planned_at_holds before ws t r (runner_at t r) G (runner_at t r).stage (held_standing t (held (runner_at t r).stage)) refl refl

@@ -1,9 +1,10 @@
 -- Locating and the start of a split: the covering page is listed, and the pages that a split takes are unused, and two.
-use Rattle.std.proofs.Common.{◌≡◌, ℕ, zero, suc, ◌+◌, ◌-◌, ◌*◌, ◌/◌, ◌%◌, ◌<◌, ◌≤◌, Bool, true, false, ltb, leb, ◌≢◌, List, Some, None, Option, sym, refl, ap, ◌∙◌, inl, inr, ⊎_elim, mul-le-mul_left, mul-suc, arith}
+use Rattle.std.proofs.Common.{◌≡◌, ℕ, zero, suc, ◌+◌, ◌-◌, ◌*◌, ◌/◌, ◌%◌, ◌<◌, ◌≤◌, Bool, true, false, ltb, leb, ◌≢◌, List, Some, None, Option, sym, refl, ap, ◌∙◌, inl, ⊎_elim, mul-le-mul_left, mul-suc, arith}
 use native.Mathlib.Nat.{mod-add-div}
 use Rattle.std.proofs.lemmas.Nat.{mod_below}
 use Rattle.std.proofs.lemmas.Bool.{cond_both, and_parts, not-true, both_ways, cases_lt, eq-eqb}
 use Rattle.std.proofs.lemmas.Bool.Decides.{nat_tests}
+use Rattle.std.proofs.lemmas.Option.{none-some}
 use Rattle.protocol.specs.declared.numbers.Operation.{Operation}
 use Rattle.protocol.specs.declared.numbers.Operation.TheVariants.{Enter, Change, Remove, Look}
 use Rattle.protocol.specs.declared.table.Runner.{Runner}
@@ -37,8 +38,8 @@ covering_listed before ws t k G = cover_listed before ws t k G 64 t.first G.link
 
 -- a free page is unused
 
-unheld_as : (t : Table) (p : ℕ) (o : Option ℕ) → is_some o ≡ false → Missed (holds_page t p) 0 8 o → (i : ℕ) → i < 8 → held (runner_at t i).stage ≢ p
-unheld_as t p None e m i h z = both_ways (holds_page t p i) (m i (omega arith) (omega arith)) (eq-eqb (held (runner_at t i).stage) p z)
+unheld_as : (t : Table) (p : ℕ) (o : Option ℕ) → is_some o ≡ false → Missed (holds_page t p) 0 8 o → (i : ℕ) → i < 8 → held (runner_at t i).stage ≢ Some p
+unheld_as t p None e m i h z = both_ways (holds_page t p i) (m i (omega arith) (omega arith)) (rw z (eq-eqb p p refl))
 unheld_as t p (Some k) e m i h z = both_ways true e refl
 
 pub idle_past : (t : Table) (i : ℕ) → 8 ≤ i → runner_at t i ≡ idle_runner
@@ -55,7 +56,7 @@ free_unused t p e z r =
       unheld = λ i.
           ⊎_elim
           (λ h. unheld_as t p (first_from (holds_page t p) 0 8) (not-true (is_some (first_from (holds_page t p) 0 8)) a.1) (first_missed (holds_page t p) 0 8) i h)
-          (λ h q. z (sym q ∙ ap (λ x. held x.stage) (idle_past t i h)))
+          (λ h q. none-some p (sym (ap (λ x. held x.stage) (idle_past t i h)) ∙ q))
           (cases_lt i 8);
     }
 
@@ -80,14 +81,14 @@ module _ (t : Table) (n r p k : ℕ) (few : n ≤ 64) (o : listed t p ≡ true) 
   round_unused i h e = free_unused t (round_page n t.round i) e (λ z. absurd (omega arith)) (round_row i h)
 
   one_holds : (b : Option ℕ) → Found (free_at t n) n b → MoveHolds t (into_one t n r p k b)
-  one_holds None f = (inl refl, tt)
+  one_holds None f = (tt, tt)
   one_holds (Some i) f =
-      (inl refl, record { old = o; left = round_unused i f.0 f.1; right = λ z. absurd (z refl); two = λ z. absurd (omega arith) })
+      (tt, record { old = o; left = round_unused i f.0 f.1; right = λ z. absurd (z refl); two = λ z. absurd (omega arith) })
 
   second_holds : (i : ℕ) (b : Option ℕ) → i < n → free_at t n i ≡ true → Found (free_at t n) n b → Above (i + 1) b → MoveHolds t (into_second t n r p k i b)
-  second_holds i None h e f a = (inl refl, tt)
+  second_holds i None h e f a = (tt, tt)
   second_holds i (Some j) h e f a = (
-    inl refl,
+    tt,
     record {
       old = o;
       left = round_unused i h e;
@@ -97,7 +98,7 @@ module _ (t : Table) (n r p k : ℕ) (few : n ≤ 64) (o : listed t p ≡ true) 
   )
 
   two_holds : (b : Option ℕ) → Found (free_at t n) n b → MoveHolds t (into_two t n r p k b)
-  two_holds None f = (inl refl, tt)
+  two_holds None f = (tt, tt)
   two_holds (Some i) f = second_holds i (free_from t n (i + 1)) f.0 f.1 (free_found t n (i + 1) (omega (arith, f.0))) (first_above (free_at t n) (i + 1) (n - (i + 1)))
 
 module _ (before : ℕ → ℕ → Bool) (ws : List ℕ) (t : Table) (G : WellListed t) (r : ℕ) where
@@ -112,28 +113,28 @@ module _ (before : ℕ → ℕ → Bool) (ws : List ℕ) (t : Table) (G : WellLi
       (λ _. two_holds t n r p (split_key before ks) few o (free_from t n 0) f)
 
   crowded_holds : (p : ℕ) (b : Option Split) → listed t p ≡ true → MoveHolds t (crowded before ws t r p b)
-  crowded_holds p (Some s) o = (inl refl, tt)
+  crowded_holds p (Some s) o = (tt, tt)
   crowded_holds p None o = starting_holds p o
 
   entering_page_holds : (p : ℕ) (b : Option ℕ) → listed t p ≡ true → MoveHolds t (entering_page before ws t r p b)
-  entering_page_holds p (Some i) o = (inl refl, tt)
+  entering_page_holds p (Some i) o = (tt, tt)
   entering_page_holds p None o =
       cond_both (ltb (page_at t p).taken 8) (takes t r p) (crowded before ws t r p t.split) (MoveHolds t)
-      (λ _. (inr (inl o), tt))
+      (λ _. (inl o, tt))
       (λ _. crowded_holds p t.split o)
 
   entering_holds : (k p : ℕ) (u : Standing) → listed t p ≡ true → MoveHolds t (entering before ws t r k p u)
   entering_holds k p Whole o = entering_page_holds p (found ws (page_at t p).committed p k) o
-  entering_holds k p InCopy o = (inl refl, tt)
-  entering_holds k p (InSync s) o = (inl refl, tt)
-  entering_holds k p (InLink s) o = (inl refl, tt)
+  entering_holds k p InCopy o = (tt, tt)
+  entering_holds k p (InSync s) o = (tt, tt)
+  entering_holds k p (InLink s) o = (tt, tt)
   entering_holds k p Left o = entering_page_holds p (found ws (page_at t p).committed p k) o
 
   locating_page_holds : (k p : ℕ) (m : Operation) → listed t p ≡ true → MoveHolds t (locating_page before ws t r k p m)
   locating_page_holds k p Enter o = entering_holds k p (standing t p) o
-  locating_page_holds k p Change o = (inr (inl o), tt)
-  locating_page_holds k p Remove o = (inr (inl o), tt)
-  locating_page_holds k p Look o = (inr (inl o), tt)
+  locating_page_holds k p Change o = (inl o, tt)
+  locating_page_holds k p Remove o = (inl o, tt)
+  locating_page_holds k p Look o = (inl o, tt)
 
   pub locating_holds : (x : Runner) → MoveHolds t (locating before ws t r x)
   locating_holds x = locating_page_holds x.key (covering before ws t x.key) x.operation (covering_listed before ws t x.key G)

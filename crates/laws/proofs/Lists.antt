@@ -1,5 +1,5 @@
 -- Every call keeps the page list of an open book, and the pages of a split apart from it.
-use Rattle.std.proofs.Common.{◌≡◌, ℕ, ◌-◌, true, false, Ok, Err, Result, sym, refl, ◌∙◌, inl}
+use Rattle.std.proofs.Common.{◌≡◌, ℕ, ◌-◌, true, false, None, Ok, Err, Result, sym, refl, ◌∙◌}
 use Rattle.std.proofs.lemmas.Bool.{cond_both, both_ways}
 use Rattle.protocol.specs.declared.numbers.Operation.{Operation}
 use Rattle.protocol.specs.declared.numbers.Refusal.{Refusal}
@@ -22,10 +22,10 @@ use Rattle.laws.proofs.ListRebuild.{JustListed, chained_lists, tally_lists, made
 
 -- a runner that lets go changes no list
 
-let_go : (t : Table) (i : ℕ) (x : Runner) → held x.stage ≡ 0 → WellListed t → WellListed (with_runner t i x)
-let_go t i x e G = record { place = G.place; prev = G.prev; links = G.links; apart = λ s d. apart_runner t i x s (inl e) (G.apart s d) }
+let_go : (t : Table) (i : ℕ) (x : Runner) → held x.stage ≡ None → WellListed t → WellListed (with_runner t i x)
+let_go t i x e G = record { place = G.place; prev = G.prev; links = G.links; apart = λ s d. apart_runner t i x s (rw e tt) (G.apart s d) }
 
-started_listed : (t : Table) (i : ℕ) (x : Runner) (l : ℕ) → held x.stage ≡ 0 → WellListed t → WellListed (started t i x l)
+started_listed : (t : Table) (i : ℕ) (x : Runner) (l : ℕ) → held x.stage ≡ None → WellListed t → WellListed (started t i x l)
 started_listed t i x l e G =
     let H = let_go t i x e G in
     record { place = G.place; prev = G.prev; links = G.links; apart = λ s d. apart_as (with_runner t i x) (started t i x l) s (λ p. refl) (λ j. refl) (H.apart s d) }

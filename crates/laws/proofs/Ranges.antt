@@ -21,7 +21,7 @@ use Rattle.protocol.specs.declared.table.Standing.{Standing}
 use Rattle.protocol.specs.declared.table.Standing.TheVariants.{Whole, InCopy, InSync, InLink, Left}
 use Rattle.protocol.specs.declared.table.Table.{Table}
 use Rattle.protocol.specs.Layout.{word, key_at}
-use Rattle.protocol.specs.Fields.{idle_runner, no_page, runner_at, page_at, copy_at, held, phase, in_phase, standing_in, standing, activity}
+use Rattle.protocol.specs.Fields.{idle_runner, no_page, runner_at, page_at, copy_at, held, phase, in_phase, standing_in, standing, held_standing, activity}
 use Rattle.protocol.specs.Search.{first_from, holds, on_right, new_page, new_slot, stands, first_pending, precedes, preceding}
 use Rattle.protocol.specs.Split.{new_count}
 use Rattle.protocol.specs.Make.{made_table}
@@ -73,6 +73,15 @@ standing_fits n t p R =
     cond_both (page_at t p).listed (standing_in t.split p) Left (StandingFits n p)
     (λ e. standing_in_fits n p t.split (R.listed p e) R.split)
     (λ _. tt)
+
+-- and of the page that a runner holds, if any
+abbrev HeldFits : ℕ → Option ℕ → Standing → Type 0
+HeldFits n None u = Unit {0}
+HeldFits n (Some p) u = StandingFits n p u
+
+held_fits : (n : ℕ) (t : Table) (h : Option ℕ) → InRange n t → HeldFits n h (held_standing t h)
+held_fits n t None R = tt
+held_fits n t (Some p) R = standing_fits n t p R
 
 -- the new page of a key
 
@@ -205,7 +214,7 @@ helping_fits before ws t n None R h = tt
 
 -- the step
 
-target_fits : (before : ℕ → ℕ → Bool) (ws : List ℕ) (t : Table) (n : ℕ) (x : Runner) (g : Stage) (u : Standing) → InRange n t → SlotFits x.stage → SlotFits g → StandingFits n (held g) u →
+target_fits : (before : ℕ → ℕ → Bool) (ws : List ℕ) (t : Table) (n : ℕ) (x : Runner) (g : Stage) (u : Standing) → InRange n t → SlotFits x.stage → SlotFits g → HeldFits n (held g) u →
     Fits n (target_at before ws t x g u)
 target_fits before ws t n x Idle u R k h f = tt
 target_fits before ws t n x Locating u R k h f = tt
@@ -226,7 +235,7 @@ target_fits before ws t n x (Answered a v) u R k h f = tt
 step_fits_by : (before : ℕ → ℕ → Bool) (ws : List ℕ) (t : Table) (n i : ℕ) (a : Activity) → InRange n t → Fits n (step_target_by before ws t i a)
 step_fits_by before ws t n i Resting R = tt
 step_fits_by before ws t n i Open R =
-    target_fits before ws t n (runner_at t i) (runner_at t i).stage (standing t (held (runner_at t i).stage)) R (R.runners i) (R.runners i) (standing_fits n t (held (runner_at t i).stage) R)
+    target_fits before ws t n (runner_at t i) (runner_at t i).stage (held_standing t (held (runner_at t i).stage)) R (R.runners i) (R.runners i) (held_fits n t (held (runner_at t i).stage) R)
 step_fits_by before ws t n i (Waiting a v) R = tt
 
 step_fits_unless : (before : ℕ → ℕ → Bool) (ws : List ℕ) (t : Table) (n i : ℕ) (e : Option Refusal) → InRange n t → Fits n (step_target_unless before ws t i e)

@@ -1,5 +1,5 @@
 -- Stages and the split go on agreeing: the runner's own new stage, and every other stage as the split goes on.
-use Rattle.std.proofs.Common.{◌≡◌, ℕ, Bool, true, false, cond, not, ◌||◌, eqb, ◌≢◌, Some, None, Option, sym, refl, ap, ◌∙◌, inr, ⊎_elim, arith}
+use Rattle.std.proofs.Common.{◌≡◌, ℕ, Bool, true, false, cond, not, ◌||◌, eqb, ◌≢◌, Some, None, Option, sym, refl, ap, ◌∙◌, ⊎_elim, arith}
 use Rattle.std.proofs.lemmas.Bool.{cond_both, and_parts, and_from, both_ways, eqb-true, eqb-false, eq-eqb}
 use Rattle.std.proofs.lemmas.Bool.Decides.{nat_tests}
 use Rattle.protocol.specs.declared.numbers.Answer.TheVariants.{Done}
@@ -26,7 +26,7 @@ use Rattle.laws.specs.Stages.{past_copy, unlinked, may_pend, may_compare, agrees
 use Rattle.laws.proofs.Arrays.{linked_whole, new_pages_whole, runner_whole}
 use Rattle.laws.proofs.Fitting.{taken_listed, committed_listed}
 use Rattle.laws.proofs.ListFinish.{link_read, listed_row}
-use Rattle.laws.proofs.ListHolds.{apart_runner, row_same, taken_next, committed_next}
+use Rattle.laws.proofs.ListHolds.{hold_same, apart_runner, row_same, taken_next, committed_next}
 use Rattle.laws.proofs.Tables.{page_with, runner_with}
 
 -- the runner's own new stage
@@ -61,7 +61,7 @@ eq_self n = eq-eqb n n refl
 pub agrees_on : (o u : Option Split) (L M : ℕ → Bool) (old : ℕ) (g : Stage) → agrees o L g ≡ true →
     ((p : ℕ) → may_pend o p ≡ true → p ≡ old) →
     (pending_on g old ≡ true → may_pend u old ≡ true) →
-    ((p : ℕ) → p ≡ held g → may_compare o L p ≡ true → may_compare u M p ≡ true) → agrees u M g ≡ true
+    ((p : ℕ) → Some p ≡ held g → may_compare o L p ≡ true → may_compare u M p ≡ true) → agrees u M g ≡ true
 agrees_on o u L M old Idle e a b c = refl
 agrees_on o u L M old Locating e a b c = refl
 agrees_on o u L M old (WritingValue p i) e a b c = refl
@@ -187,7 +187,7 @@ finishing_agrees t s i W here A f e =
     (λ h. absurd (both_ways (unlinked s.progress) f (and_parts _ _ (pending_may (Some s) (listed t) s.old g d h)).1))
     (λ p q h.
     let l = A.left.unheld i in
-    let m = finished_listed t s p W A (λ z. l (sym q ∙ z)) (λ n z. (A.right n).unheld i (sym q ∙ z)) in
+    let m = finished_listed t s p W A (λ z. l (sym q ∙ ap Some z)) (λ n z. (A.right n).unheld i (sym q ∙ ap Some z)) in
     grind (arith, nat_tests))
 
 -- and the runners are as they were
@@ -235,7 +235,7 @@ goes_with : (t : Table) (r : ℕ) (x : Runner) (u : Split) → x.stage ≡ (runn
 goes_with t r x u e W = record { from = W.from; here = W.here; old = W.old; past = W.past; pend = λ i h. W.pend i (rw (stays t r x i e) at h) }
 
 apart_with : (t : Table) (r : ℕ) (x : Runner) (s : Split) → x.stage ≡ (runner_at t r).stage → Apart t s → Apart (with_runner t r x) s
-apart_with t r x s e A = apart_runner t r x s (inr (inr (ap held e))) A
+apart_with t r x s e A = apart_runner t r x s (rw e (hold_same t (held (runner_at t r).stage))) A
 
 rest_with : (t : Table) (r : ℕ) (x : Runner) (n : RunnerNext) (m : TableNext) → (n ≡ own.Stay → x.stage ≡ (runner_at t r).stage) → RestAgrees t n m → RestAgrees (with_runner t r x) own.Stay m
 rest_with t r x n rest.Stay f h = tt

@@ -17,7 +17,7 @@ use Rattle.protocol.specs.declared.table.Standing.TheVariants.{Whole, InCopy, In
 use Rattle.protocol.specs.declared.table.Table.{Table}
 use Rattle.protocol.specs.declared.moves.Move.{Move}
 use Rattle.protocol.specs.Layout.{word, key_at, page_count}
-use Rattle.protocol.specs.Fields.{held, pending_on, runner_at, page_at, standing, standing_in, in_phase, phase, with_progress}
+use Rattle.protocol.specs.Fields.{held, pending_on, runner_at, page_at, standing, standing_in, held_standing, in_phase, phase, with_progress}
 use Rattle.protocol.specs.Search.{found, new_page, new_slot, live_from, standing_from, pends, first_pending, covering}
 use Rattle.protocol.specs.Locate.{free_from, into_one, into_second, into_two, live_keys, key_count, split_key, starting, takes, crowded, entering_page, entering, locating_page, locating}
 use Rattle.protocol.specs.Act.{acting_found, acting_page, syncing_found, syncing_page, clearing_slot, reading_slot, reading, linking_as, pending_new, pending_at, comparing_slot}
@@ -115,6 +115,15 @@ standing_in_says t p (Some s) e =
 
 standing_says : (t : Table) (p : ℕ) → Says t p (standing t p)
 standing_says t p = cond_both (listed t p) (standing_in t.split p) Left (Says t p) (λ _. standing_in_says t p t.split refl) (λ _. tt)
+
+-- and of the page that a runner holds, if any
+abbrev HeldSays : Table → Option ℕ → Standing → Type 0
+HeldSays t None u = Unit {0}
+HeldSays t (Some p) u = Says t p u
+
+held_says : (t : Table) (h : Option ℕ) → HeldSays t h (held_standing t h)
+held_says t None = tt
+held_says t (Some p) = standing_says t p
 
 -- The runner's own moves.
 
@@ -288,7 +297,7 @@ module _ (before : ℕ → ℕ → Bool) (ws : List ℕ) (t : Table) (r : ℕ) (
   reading_in_agrees (InLink s) = reading_agrees t r before ws s x
   reading_in_agrees Left = locating_agrees before ws t r x
 
-  planned_at_agrees : (g : Stage) → WellListed t → AllAgree t → agrees t.split (listed t) x.stage ≡ true → agrees t.split (listed t) g ≡ true → (u : Standing) → Says t (held g) u →
+  planned_at_agrees : (g : Stage) → WellListed t → AllAgree t → agrees t.split (listed t) x.stage ≡ true → agrees t.split (listed t) g ≡ true → (u : Standing) → HeldSays t (held g) u →
       MoveAgrees t (planned_at before ws t r x g u)
   planned_at_agrees Idle G S k h u d = (tt, tt)
   planned_at_agrees Locating G S k h u d = locating_agrees before ws t r x
@@ -308,4 +317,4 @@ module _ (before : ℕ → ℕ → Bool) (ws : List ℕ) (t : Table) (r : ℕ) (
 
 pub planned_agrees : (before : ℕ → ℕ → Bool) (ws : List ℕ) (t : Table) (r : ℕ) → WellListed t → AllAgree t → MoveAgrees t (planned before ws t r (runner_at t r))
 planned_agrees before ws t r G S =
-    planned_at_agrees before ws t r (runner_at t r) (runner_at t r).stage G S (S r) (S r) (standing t (held (runner_at t r).stage)) (standing_says t (held (runner_at t r).stage))
+    planned_at_agrees before ws t r (runner_at t r) (runner_at t r).stage G S (S r) (S r) (held_standing t (held (runner_at t r).stage)) (held_says t (held (runner_at t r).stage))

@@ -10,7 +10,7 @@ use Rattle.protocol.specs.declared.table.Progress.{Progress}
 use Rattle.protocol.specs.declared.table.Progress.TheVariants.{Clearing, LeftNext, LeftLow, RightNext, RightLow, Copying, CopyingValue, CopyingKey, Syncing, SyncingNew, SyncingSwap, Linking, Finishing}
 use Rattle.protocol.specs.declared.table.Split.{Split}
 use Rattle.protocol.specs.declared.table.Table.{Table}
-use Rattle.protocol.specs.Fields.{held, runner_at, with_runner, idle_runner, standing, in_phase, phase}
+use Rattle.protocol.specs.Fields.{held, runner_at, with_runner, idle_runner, standing, held_standing, in_phase, phase}
 use Rattle.protocol.specs.Plan.{planned}
 use Rattle.protocol.specs.Make.{bare_table, made_table}
 use Rattle.protocol.specs.Calls.{draws, begun_as}
@@ -97,7 +97,7 @@ comparing_meets t p (Some s) e h =
     (λ l. other_meets (in_sync_or_link (standing t p)) (has_left (standing t p)) (left_meets t p l))
     (cases_Bool (listed t p))
 
-stage_meets : (t : Table) (g : Stage) → WellListed t → agrees t.split (listed t) g ≡ true → meets g (standing t (held g)) ≡ true
+stage_meets : (t : Table) (g : Stage) → WellListed t → agrees t.split (listed t) g ≡ true → meets g (held_standing t (held g)) ≡ true
 stage_meets t Idle G e = refl
 stage_meets t Locating G e = refl
 stage_meets t (WritingValue p i) G e = refl

@@ -19,7 +19,7 @@ use Rattle.protocol.specs.declared.table.Standing.TheVariants.{Whole, InCopy, In
 use Rattle.protocol.specs.declared.table.Table.{Table}
 use Rattle.protocol.specs.declared.moves.Move.{Move}
 use Rattle.protocol.specs.Layout.{word, key_at, page_count}
-use Rattle.protocol.specs.Fields.{runner_at, page_at, held, standing, activity}
+use Rattle.protocol.specs.Fields.{runner_at, page_at, held, standing, held_standing, activity}
 use Rattle.protocol.specs.Search.{found, covering, new_page, new_slot, live_from, standing_from, first_pending, preceding}
 use Rattle.protocol.specs.Locate.{live_keys, key_count, split_key, free_from, into_one, into_second, into_two, starting_with, takes, crowded, entering_page, entering, locating_page, locating}
 use Rattle.protocol.specs.Act.{acting_found, acting_page, syncing_found, syncing_page, clearing_slot, reading_slot, reading, linking_as, pending_new, pending_at, comparing_slot}
@@ -274,7 +274,7 @@ planned_writes before ws t r x (Answered a v) u = refl
 step_writes_by : (before : ℕ → ℕ → Bool) (ws : List ℕ) (t : Table) (i : ℕ) (a : Activity) →
     written_at (step_access_by before ws t i a) ≡ number_of_place (step_target_by before ws t i a)
 step_writes_by before ws t i Resting = refl
-step_writes_by before ws t i Open = planned_writes before ws t i (runner_at t i) (runner_at t i).stage (standing t (held (runner_at t i).stage))
+step_writes_by before ws t i Open = planned_writes before ws t i (runner_at t i) (runner_at t i).stage (held_standing t (held (runner_at t i).stage))
 step_writes_by before ws t i (Waiting a v) = refl
 
 step_writes_unless : (before : ℕ → ℕ → Bool) (ws : List ℕ) (t : Table) (i : ℕ) (e : Option Refusal) →
@@ -285,6 +285,6 @@ step_writes_unless before ws t i None = step_writes_by before ws t i (activity (
 pub steps_write_targets : StepsWriteTargets
 steps_write_targets =
     record {
-      move = λ before ws t r x. planned_writes before ws t r x x.stage (standing t (held x.stage));
+      move = λ before ws t r x. planned_writes before ws t r x x.stage (held_standing t (held x.stage));
       step = λ before ws t r. step_writes_unless before ws t (r - 1) (runner_refusal t r);
     }

@@ -29,7 +29,7 @@ pub record Unused (t : Table) (p : ℕ) : Type 0 where
   pub real : p ≢ 0
   pub row : p < 65
   pub off : listed t p ≡ false
-  pub unheld : (i : ℕ) → held (runner_at t i).stage ≢ p
+  pub unheld : (i : ℕ) → held (runner_at t i).stage ≢ Some p
 
 -- The old page of a split is listed; its new pages are unused, and are not one and the same.
 pub record Apart (t : Table) (s : Split) : Type 0 where

@@ -10,7 +10,7 @@ use Rattle.protocol.specs.declared.table.Split.{Split}
 use Rattle.protocol.specs.declared.table.Standing.{Standing}
 use Rattle.protocol.specs.declared.table.Standing.TheVariants.{Whole, InCopy, InSync, InLink, Left}
 use Rattle.protocol.specs.declared.table.Table.{Table}
-use Rattle.protocol.specs.Fields.{runner_at, held, phase, standing}
+use Rattle.protocol.specs.Fields.{runner_at, held, phase, held_standing}
 use Rattle.protocol.specs.Make.{closed_table}
 use Rattle.protocol.specs.Calls.{made, rebuilt, begun, stepped, collected}
 use Rattle.laws.specs.Lists.{listed, WellListed, ListedIfOpen}
@@ -111,4 +111,4 @@ pub record CallsKeepStages : Type 0 where
   pub begin : (key : ℕ → Bool) (t : Table) (r o k v : ℕ) → AllAgree t → AllAgree (begun key t r o k v).0
   pub step : (before : ℕ → ℕ → Bool) (ws : List ℕ) (t : Table) (r : ℕ) → ListedIfOpen t → AllAgree t → AllAgree (stepped before ws t r).1
   pub collect : (t : Table) (r : ℕ) → AllAgree t → AllAgree (collected t r).0
-  pub standings : (t : Table) (i : ℕ) → WellListed t → AllAgree t → meets (runner_at t i).stage (standing t (held (runner_at t i).stage)) ≡ true
+  pub standings : (t : Table) (i : ℕ) → WellListed t → AllAgree t → meets (runner_at t i).stage (held_standing t (held (runner_at t i).stage)) ≡ true

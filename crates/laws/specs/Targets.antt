@@ -17,7 +17,7 @@ use Rattle.protocol.specs.declared.table.Table.{Table}
 use Rattle.protocol.specs.declared.moves.Access.{Access}
 use Rattle.protocol.specs.declared.moves.Access.TheVariants.{Nothing, Load, Store, Swap}
 use Rattle.protocol.specs.Layout.{word, key_at}
-use Rattle.protocol.specs.Fields.{runner_at, page_at, copy_at, held, standing, activity}
+use Rattle.protocol.specs.Fields.{runner_at, page_at, copy_at, held, held_standing, activity}
 use Rattle.protocol.specs.Search.{found, new_page, new_slot, standing_from, first_pending, preceding}
 use Rattle.protocol.specs.Split.{new_count}
 use Rattle.protocol.specs.Plan.{planned}
@@ -156,7 +156,7 @@ target_at before ws t x (Answered a v) u = None
 
 -- The word that the step of a runner with record x writes, if any.
 abbrev pub target : (ℕ → ℕ → Bool) → List ℕ → Table → Runner → Option Place
-target before ws t x = target_at before ws t x x.stage (standing t (held x.stage))
+target before ws t x = target_at before ws t x x.stage (held_standing t (held x.stage))
 
 -- A step that is sent back writes none.
 abbrev pub step_target_by : (ℕ → ℕ → Bool) → List ℕ → Table → ℕ → Activity → Option Place

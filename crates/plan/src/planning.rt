@@ -120,5 +120,8 @@ pub fn plan<M: KeptMemory, K: KeyKind>(view: &View<M, K>, turn: Turn) -> Move
     ensures { result ≡ planned K.before (M.words view.now.memory.now) view.now.table.now turn.index turn.runner }
 {
     let stage = turn.runner.stage;
-    plan_at(view, turn, stage, view.table.standing(stage.held()))
+    let standing = stage
+        .held()
+        .map_or(Standing::Left, |page| view.table.standing(page));
+    plan_at(view, turn, stage, standing)
 }

@@ -85,23 +85,23 @@ with_split t s round = record {
   last = t.last;
 }
 
--- The page that a runner holds, 0 if it holds none.
-abbrev pub held : Stage → ℕ
-held Idle = 0
-held Locating = 0
-held (WritingValue p s) = p
-held (WritingKey p s) = p
-held (Committing p s) = p
-held Helping = 0
-held (Acting p) = p
-held (PendingNew p s) = p
-held (PendingOld p s n w) = p
-held (PendingSwap p s n w o) = p
-held (PendingRemove p) = p
-held (Comparing p o) = p
-held (ComparingSwap p n w o) = p
-held (Reading p) = p
-held (Answered a v) = 0
+-- The page that a runner holds, if any.
+abbrev pub held : Stage → Option ℕ
+held Idle = None
+held Locating = None
+held (WritingValue p s) = Some p
+held (WritingKey p s) = Some p
+held (Committing p s) = Some p
+held Helping = None
+held (Acting p) = Some p
+held (PendingNew p s) = Some p
+held (PendingOld p s n w) = Some p
+held (PendingSwap p s n w o) = Some p
+held (PendingRemove p) = Some p
+held (Comparing p o) = Some p
+held (ComparingSwap p n w o) = Some p
+held (Reading p) = Some p
+held (Answered a v) = None
 
 -- A runner is idle, open or answered.
 abbrev pub activity : Stage → Activity
@@ -167,6 +167,11 @@ standing_in (Some s) p = cond (s.old == p) (in_phase s (phase s.progress)) Whole
 
 abbrev pub standing : Table → ℕ → Standing
 standing t p = cond (page_at t p).listed (standing_in t.split p) Left
+
+-- How the page that a runner holds stands. The step of a runner that holds none asks of no page, so any standing serves there.
+abbrev pub held_standing : Table → Option ℕ → Standing
+held_standing t None = Left
+held_standing t (Some p) = standing t p
 
 -- Whether a slot's bit is set.
 abbrev pub committed : ℕ → ℕ → Bool

@@ -50,8 +50,13 @@ abbrev pub in_split : Option Split → ℕ → Bool
 in_split None p = false
 in_split (Some s) p = s.old == p || s.left == p || s.right == p
 
+-- Whether what a runner holds is page p.
+abbrev pub is_page : Option ℕ → ℕ → Bool
+is_page None p = false
+is_page (Some q) p = q == p
+
 abbrev pub holds_page : Table → ℕ → ℕ → Bool
-holds_page t p i = held (runner_at t i).stage == p
+holds_page t p i = is_page (held (runner_at t i).stage) p
 
 -- A page is free when it is not in the list, not in the split and not held.
 abbrev pub free : Table → ℕ → Bool

@@ -13,7 +13,7 @@ use Rattle.protocol.specs.declared.moves.RunnerNext.TheVariants.{Go}
 use Rattle.protocol.specs.declared.moves.TableNext.TheVariants.{Commit}
 use Rattle.protocol.specs.declared.moves.Move.{Move}
 use Rattle.protocol.specs.Layout.{key_at, value_at}
-use Rattle.protocol.specs.Fields.{held, standing}
+use Rattle.protocol.specs.Fields.{held, held_standing}
 use Rattle.protocol.specs.Moves.{goes, turns, rests}
 use Rattle.protocol.specs.Locate.{locating}
 use Rattle.protocol.specs.Act.{acting, acting_in_sync, acting_in_link, pending, comparing, comparing_swap, reading}
@@ -94,4 +94,4 @@ planned_at before ws t r x (Reading p) u = reading_in before ws t r x u
 planned_at before ws t r x (Answered a v) u = rests r
 
 abbrev pub planned : (ℕ → ℕ → Bool) → List ℕ → Table → ℕ → Runner → Move
-planned before ws t r x = planned_at before ws t r x x.stage (standing t (held x.stage))
+planned before ws t r x = planned_at before ws t r x x.stage (held_standing t (held x.stage))

@@ -11,22 +11,22 @@ use crate::table::{
 };
 
 impl Stage {
-    // The page that the runner holds, 0 if it holds none.
-    pub fn held(self) -> u8
+    // The page that the runner holds, if any.
+    pub fn held(self) -> Option<u8>
         ensures { result ≡ held self }
     {
         match self {
-            Stage::Idle | Stage::Locating | Stage::Helping | Stage::Answered { .. } => 0,
+            Stage::Idle | Stage::Locating | Stage::Helping | Stage::Answered { .. } => None,
             Stage::WritingValue { page, .. }
             | Stage::WritingKey { page, .. }
-            | Stage::Committing { page, .. } => page,
+            | Stage::Committing { page, .. } => Some(page),
             Stage::Acting { page }
             | Stage::Comparing { page, .. }
-            | Stage::ComparingSwap { page, .. } => page,
+            | Stage::ComparingSwap { page, .. } => Some(page),
             Stage::PendingNew { page, .. }
             | Stage::PendingOld { page, .. }
-            | Stage::PendingSwap { page, .. } => page,
-            Stage::PendingRemove { page } | Stage::Reading { page } => page,
+            | Stage::PendingSwap { page, .. } => Some(page),
+            Stage::PendingRemove { page } | Stage::Reading { page } => Some(page),
         }
     }
 
@@ -192,7 +192,7 @@ impl Table {
     pub fn is_held(&self, page: u8) -> bool
         ensures { result ≡ is_some (first_from (holds_page self.now page) 0 8) }
     {
-        (0..8).any(|i| self.runner_at(i).stage.held() == page)
+        (0..8).any(|i| self.runner_at(i).stage.held() == Some(page))
     }
 
     // How a page stands to the list and the split.

@@ -50,9 +50,8 @@ fn stage_step(stage: Stage) -> Option<u8> {
 
 pub(crate) fn put_stage(stage: Stage, out: &mut Printout) -> Result<(), AllocError> {
     let name = stage_name(stage);
-    let page = stage.held();
     write!(out, "{name}")?;
-    if page != 0 {
+    if let Some(page) = stage.held() {
         write!(out, " page {page}")?;
     }
     if let Some(slot) = stage_slot(stage) {
