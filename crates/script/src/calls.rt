@@ -1,18 +1,19 @@
 // What the lines of a script do to a book while it lives.
-use crate::answer::put_answer;
+use crate::answer::{AnswerText, answer_line};
 use crate::key_text::KeyText;
-use crate::pairs::put_pairs;
-use crate::printout::Printout;
-use crate::show::put_table;
+use crate::pairs::PairsText;
+use crate::show::TableText;
 use answers::AnswerLine;
 use book::book::Book;
 use commands::command::Command;
+use keys::kind::KeyKind;
 use memory::kept::KeptMemory;
 use protocol::numbers::Refusal;
 use std::alloc::AllocError;
+use std::fmt;
 
 // Steps of a runner, up to the first refusal.
-fn step<M: KeptMemory, K: KeyText>(
+fn step<M: KeptMemory, K: KeyKind>(
     book: &mut Book<M, K>,
     runner: u32,
     times: u32,
@@ -24,7 +25,7 @@ fn step<M: KeptMemory, K: KeyText>(
 }
 
 // Steps of a runner until it is answered, at least one; gives how many.
-fn finish<M: KeptMemory, K: KeyText>(book: &mut Book<M, K>, runner: u32) -> Result<u32, Refusal> {
+fn finish<M: KeptMemory, K: KeyKind>(book: &mut Book<M, K>, runner: u32) -> Result<u32, Refusal> {
     for count in 0..u32::MAX {
         match book.step(runner) {
             Ok(()) => {}
@@ -35,82 +36,98 @@ fn finish<M: KeptMemory, K: KeyText>(book: &mut Book<M, K>, runner: u32) -> Resu
     Ok(u32::MAX)
 }
 
-fn put_finish<M: KeptMemory, K: KeyText>(
-    book: &mut Book<M, K>,
-    runner: u32,
-    out: &mut Printout,
-) -> Result<(), AllocError> {
-    match finish(book, runner) {
-        Ok(count) => writeln!(out, "{count} steps"),
-        Err(refusal) => out.put_refusal(refusal.number()),
+// The answer line, after the zeros that the script wrote before the runner's number.
+#[derive(Drop)]
+struct Collected {
+    zeros: usize,
+    line: AnswerLine,
+}
+
+impl fmt::Display for Collected {
+    fn fmt<W: fmt::Write>(&self, f: &mut fmt::Formatter<W>) -> fmt::Result {
+        for _ in 0..self.zeros {
+            write!(f, "0")?;
+        }
+        write!(f, "{}", AnswerText(self.line))
     }
 }
 
-fn put_collect<M: KeptMemory, K: KeyText>(
+fn collect<M: KeptMemory, K: KeyKind>(
     book: &mut Book<M, K>,
     runner: u32,
     zeros: usize,
-    out: &mut Printout,
-) -> Result<(), AllocError> {
-    match book.collect(runner) {
-        Ok((answer, value)) => {
-            out.put_zeros(zeros)?;
-            let line = AnswerLine {
-                runner,
-                answer: answer.number() as u32,
-                value,
-            };
-            put_answer(line, 0, out)
-        }
-        Err(refusal) => out.put_refusal(refusal.number()),
+) -> Result<Collected, Refusal> {
+    let (answer, value) = book.collect(runner)?;
+    let line = answer_line(runner, answer, value);
+    Ok(Collected { zeros, line })
+}
+
+// How many steps a runner took until it was answered.
+#[derive(Drop)]
+struct Steps(u32);
+
+impl fmt::Display for Steps {
+    fn fmt<W: fmt::Write>(&self, f: &mut fmt::Formatter<W>) -> fmt::Result {
+        write!(f, "{} steps", self.0)
     }
 }
 
-fn put_word<M: KeptMemory>(memory: &M, at: usize, out: &mut Printout) -> Result<(), AllocError> {
-    match memory.load(at) {
-        Ok(word) => writeln!(out, "{word}"),
-        Err(refusal) => out.put_refusal(refusal.number()),
+// Prints what a line came to: what it gives, or why it is refused.
+fn tell<T: fmt::Display + Drop, E: fmt::Display + Drop>(
+    outcome: Result<T, E>,
+    out: &mut String,
+) -> Result<(), AllocError> {
+    match outcome {
+        Ok(told) => writeln!(out, "{told}"),
+        Err(refusal) => writeln!(out, "{refusal}"),
     }
 }
 
-// What a rebuild would find.
-fn put_survey<M: KeptMemory, K: KeyText>(
-    book: &Book<M, K>,
-    out: &mut Printout,
+// The same, of what gives nothing but that it was done.
+pub(crate) fn tell_done<E: fmt::Display + Drop>(
+    outcome: Result<(), E>,
+    out: &mut String,
 ) -> Result<(), AllocError> {
-    match book.survey(1) {
-        Ok(table) => put_pairs::<M, K>(book.memory(), &table, out),
-        Err(refusal) => out.put_refusal(refusal.number()),
-    }
+    tell(outcome.map(|()| "ok"), out)
 }
 
 // Does what a line asks for, and prints what comes of it. Lines that end a book's life do nothing here.
 pub(crate) fn perform<M: KeptMemory, K: KeyText>(
     book: &mut Book<M, K>,
     command: Command,
-    out: &mut Printout,
+    out: &mut String,
 ) -> Result<(), AllocError> {
     match command {
-        Command::Make(runners) => out.put_call(book.make(runners)),
-        Command::Rebuild(runners) => out.put_call(book.rebuild(runners)),
+        Command::Make(runners) => tell_done(book.make(runners), out),
+        Command::Rebuild(runners) => tell_done(book.rebuild(runners), out),
         Command::Begin {
             runner,
             operation,
             key: Ok(key),
             value,
-        } => out.put_call(book.begin(runner, operation, key, value)),
+        } => tell_done(book.begin(runner, operation, key, value), out),
         Command::Begin {
             key: Err(refusal),
             ..
-        } => out.put_refusal(refusal.number()),
-        Command::Step { runner, times } => out.put_call(step(book, runner, times)),
-        Command::Finish(runner) => put_finish(book, runner, out),
-        Command::Collect { runner, zeros } => put_collect(book, runner, zeros, out),
-        Command::Word(at) => put_word(book.memory(), at, out),
-        Command::Pairs => put_survey(book, out),
-        Command::Show => put_table::<K>(&book.table(), out),
+        } => writeln!(out, "{refusal}"),
+        Command::Step { runner, times } => tell_done(step(book, runner, times), out),
+        Command::Finish(runner) => tell(finish(book, runner).map(Steps), out),
+        Command::Collect { runner, zeros } => tell(collect(book, runner, zeros), out),
+        Command::Word(at) => tell(book.memory().load(at), out),
+        Command::Pairs => {
+            let table = book.survey(1);
+            tell(
+                table.map(|table| PairsText::<M, K>::of(book.memory(), table)),
+                out,
+            )
+        }
+        Command::Show => write!(out, "{}", TableText::<K>::of(book.table())),
         Command::Unreadable(line) => writeln!(out, "unreadable {line}"),
-        Command::Nothing | Command::Memory(..) | Command::Kind(_) => Ok(()),
-        Command::Cut | Command::CutAfter(_) | Command::Set { .. } => Ok(()),
+        Command::Nothing
+        | Command::Memory(..)
+        | Command::Kind(_)
+        | Command::Cut
+        | Command::CutAfter(_)
+        | Command::Set { .. } => Ok(()),
     }
 }

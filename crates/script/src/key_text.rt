@@ -1,15 +1,13 @@
 // How a kind shows its keys.
-use crate::printout::Printout;
 use keys::kind::KeyKind;
 use keys::place::{Place, PlaceParts};
 use keys::plate::{Plate, PlateText};
 use keys::refusal::Refusal;
-use std::alloc::AllocError;
-use std::fmt::Display;
+use std::fmt;
 
 pub(crate) trait KeyText: KeyKind {
     // What a key of the kind stands for, which prints as a script writes it.
-    type Parts: Display + Drop;
+    type Parts: fmt::Display + Drop;
 
     fn parts(word: u64) -> Result<Self::Parts, Refusal>;
 }
@@ -30,10 +28,25 @@ impl KeyText for Plate {
     }
 }
 
-// A key of the kind as a script writes it, any other word as `@WORD`.
-pub(crate) fn put_key<K: KeyText>(word: u64, out: &mut Printout) -> Result<(), AllocError> {
+// A word as a script writes it under a kind: a key by its parts, any other word as `@WORD`.
+#[derive(Drop)]
+pub(crate) enum KeyWord<P> {
+    Key(P),
+    Word(u64),
+}
+
+pub(crate) fn key_word<K: KeyText>(word: u64) -> KeyWord<K::Parts> {
     match K::parts(word) {
-        Ok(parts) => write!(out, "{parts}"),
-        Err(_) => write!(out, "@{word}"),
+        Ok(parts) => KeyWord::Key(parts),
+        Err(_) => KeyWord::Word(word),
+    }
+}
+
+impl<P: fmt::Display> fmt::Display for KeyWord<P> {
+    fn fmt<W: fmt::Write>(&self, f: &mut fmt::Formatter<W>) -> fmt::Result {
+        match self {
+            KeyWord::Key(parts) => write!(f, "{parts}"),
+            KeyWord::Word(word) => write!(f, "@{word}"),
+        }
     }
 }

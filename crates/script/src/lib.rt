@@ -6,19 +6,17 @@ mod calls;
 mod key_text;
 mod pages;
 mod pairs;
-mod printout;
 mod run;
 mod show;
 mod stages;
 
 use commands::reader::Reader;
-use printout::Printout;
 use run::run_script;
 use std::alloc::{AllocError, Global};
 
 // What a script prints.
 pub fn printed(heap: Global, script: &[u8]) -> Result<String, AllocError> {
-    let mut out = Printout::new(heap);
+    let mut out = String::new(heap);
     run_script(heap, &mut Reader::new(script), &mut out)?;
-    Ok(out.into_text())
+    Ok(out)
 }

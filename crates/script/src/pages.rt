@@ -6,6 +6,7 @@ use protocol::table::Table;
 
 const MOST_PAGES: u8 = 64;
 
+// A type of its own: no function can hand out the iterator that `successors` makes of a closure.
 #[derive(Drop)]
 pub(crate) struct Pages<'a> {
     table: &'a Table,
@@ -29,12 +30,12 @@ impl Iterator for Pages<'_> {
     ghost remaining = { λ s. at_most s.left };
 
     fn next(&mut self) -> Option<u8> {
-        if self.next == 0 || self.left == 0 {
+        if self.next == 0 {
             return None;
         }
+        self.left = self.left.checked_sub(1)?;
         let page = self.next;
         self.next = self.table.page_at(page).next;
-        self.left -= 1;
         Some(page)
     }
 }

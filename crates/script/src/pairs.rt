@@ -1,48 +1,49 @@
 // The pairs that stand in a row.
-use crate::key_text::{KeyText, put_key};
+use crate::key_text::{KeyText, key_word};
 use crate::pages::Pages;
-use crate::printout::Printout;
 use memory::kept::KeptMemory;
 use protocol::layout::{key_at, value_at};
 use protocol::table::Table;
-use std::alloc::AllocError;
+use search::word;
+use std::fmt;
+use std::marker::PhantomData;
 use values::value_word::value_of;
 
-fn word<M: KeptMemory>(memory: &M, at: usize) -> u64 {
-    match memory.load(at) {
-        Ok(word) => word,
-        Err(_) => 0,
-    }
+// The pairs in the pages of a table's list, and how many they are.
+#[derive(Drop)]
+pub(crate) struct PairsText<'a, M, K> {
+    memory: &'a M,
+    table: Table,
+    kind: PhantomData<K>,
 }
 
-// Prints the pairs of a page, and gives how many they are.
-fn put_page<M: KeptMemory, K: KeyText>(
-    memory: &M,
-    page: u8,
-    out: &mut Printout,
-) -> Result<u64, AllocError> {
-    let mut count: u64 = 0;
-    for slot in 0..8 {
-        let key = word(memory, key_at(page, slot));
-        if key != 0 {
-            let value = value_of(word(memory, value_at(page, slot)));
-            put_key::<K>(key, out)?;
-            writeln!(out, " {value}")?;
-            count = count.saturating_add(1);
+impl<'a, M: KeptMemory, K: KeyText> PairsText<'a, M, K> {
+    pub(crate) fn of(memory: &'a M, table: Table) -> PairsText<'a, M, K> {
+        PairsText {
+            memory,
+            table,
+            kind: PhantomData,
         }
     }
-    Ok(count)
+
+    // The key and the value in a slot, if there is a key.
+    fn pair_at(&self, page: u8, slot: u8) -> Option<(u64, u32)> {
+        match word(self.memory, key_at(page, slot)) {
+            0 => None,
+            key => Some((key, value_of(word(self.memory, value_at(page, slot))))),
+        }
+    }
 }
 
-// Prints the pairs in the pages of the list, and how many they are.
-pub(crate) fn put_pairs<M: KeptMemory, K: KeyText>(
-    memory: &M,
-    table: &Table,
-    out: &mut Printout,
-) -> Result<(), AllocError> {
-    let mut count: u64 = 0;
-    for page in Pages::of(table) {
-        count = count.saturating_add(put_page::<M, K>(memory, page, out)?);
+impl<M: KeptMemory, K: KeyText> fmt::Display for PairsText<'_, M, K> {
+    fn fmt<W: fmt::Write>(&self, f: &mut fmt::Formatter<W>) -> fmt::Result {
+        let slots = Pages::of(&self.table).flat_map(|page| (0..8).map(move |slot| (page, slot)));
+        // Saturating: tried as `+= 1` and by `count`, whose proofs did not close, since how many items a `flat_map` gives is not known.
+        let mut count = 0u64;
+        for (key, value) in slots.filter_map(|(page, slot)| self.pair_at(page, slot)) {
+            writeln!(f, "{} {value}", key_word::<K>(key))?;
+            count = count.saturating_add(1);
+        }
+        write!(f, "{count} pairs")
     }
-    writeln!(out, "{count} pairs")
 }

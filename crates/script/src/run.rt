@@ -5,9 +5,8 @@
 ghost use Rattle.std.specs.Prelude.{IfOk};
 ghost use Rattle.commands.specs.Reading.{ReadOn};
 
-use crate::calls::perform;
+use crate::calls::{perform, tell_done};
 use crate::key_text::KeyText;
-use crate::printout::Printout;
 use book::book::Book;
 use commands::command::{Backing, Command, Kind};
 use commands::reader::Reader;
@@ -22,7 +21,7 @@ use std::alloc::{AllocError, Global};
 fn run_book<M: KeptMemory, K: KeyText>(
     book: &mut Book<M, K>,
     reader: &mut Reader,
-    out: &mut Printout,
+    out: &mut String,
 ) -> Result<Option<Command>, AllocError>
     ensures { IfOk result (λ line. ReadOn reader.old.rest.now reader.new.rest.now line) }
 {
@@ -44,7 +43,7 @@ fn run_book<M: KeptMemory, K: KeyText>(
 fn run_kind<M: KeptMemory, K: KeyText>(
     memory: &mut M,
     reader: &mut Reader,
-    out: &mut Printout,
+    out: &mut String,
 ) -> Result<Option<Command>, AllocError>
     ensures { IfOk result (λ line. ReadOn reader.old.rest.now reader.new.rest.now line) }
 {
@@ -54,7 +53,7 @@ fn run_kind<M: KeptMemory, K: KeyText>(
             Some(Command::Cut) => {}
             Some(Command::Set { at, word }) => {
                 let kept = book.into_memory();
-                out.put_store(kept.store(at, word))?;
+                tell_done(kept.store(at, word), out)?;
             }
             ending => return Ok(ending),
         }
@@ -66,7 +65,7 @@ fn run_memory<M: KeptMemory>(
     memory: &mut M,
     kind: &mut Kind,
     reader: &mut Reader,
-    out: &mut Printout,
+    out: &mut String,
 ) -> Result<Option<Command>, AllocError>
     ensures { IfOk result (λ line. ReadOn reader.old.rest.now reader.new.rest.now line) }
 {
@@ -87,7 +86,7 @@ fn run_words(
     size: usize,
     kind: &mut Kind,
     reader: &mut Reader,
-    out: &mut Printout,
+    out: &mut String,
 ) -> Result<Option<Command>, AllocError>
     ensures { IfOk result (λ line. ReadOn reader.old.rest.now reader.new.rest.now line) }
 {
@@ -100,7 +99,7 @@ fn run_bytes(
     size: usize,
     kind: &mut Kind,
     reader: &mut Reader,
-    out: &mut Printout,
+    out: &mut String,
 ) -> Result<Option<Command>, AllocError>
     ensures { IfOk result (λ line. ReadOn reader.old.rest.now reader.new.rest.now line) }
 {
@@ -117,7 +116,7 @@ fn run_bytes(
 pub(crate) fn run_script(
     heap: Global,
     reader: &mut Reader,
-    out: &mut Printout,
+    out: &mut String,
 ) -> Result<(), AllocError> {
     let mut kind = Kind::Place;
     let mut next = reader.next();

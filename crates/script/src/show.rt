@@ -1,127 +1,141 @@
 // The state of a book, for a person: its table, line by line.
-use crate::answer::put_answer;
-use crate::key_text::{KeyText, put_key};
+use crate::answer::{ToldText, answer_line};
+use crate::key_text::{KeyText, KeyWord, key_word};
 use crate::pages::Pages;
-use crate::printout::Printout;
-use crate::stages::{put_progress, put_stage};
-use answers::AnswerLine;
+use crate::stages::{ProgressText, StageText};
 use protocol::numbers::Operation;
 use protocol::table::{PageRow, Runner, Split, Stage, Table};
 use protocol::{fields, rows};
-use std::alloc::AllocError;
+use std::fmt;
+use std::marker::PhantomData;
 use values::value_word::value_of;
 
-fn put_slots(row: PageRow, out: &mut Printout) -> Result<(), AllocError> {
-    for slot in 0..8 {
-        if row.is_committed(slot) {
-            write!(out, " {slot}")?;
+// How many slots are taken, and which are committed.
+#[derive(Drop)]
+struct SlotsText(PageRow);
+
+impl fmt::Display for SlotsText {
+    fn fmt<W: fmt::Write>(&self, f: &mut fmt::Formatter<W>) -> fmt::Result {
+        let row = self.0;
+        write!(f, "taken {}, committed", row.taken)?;
+        for slot in (0..8).filter(|slot| row.is_committed(*slot)) {
+            write!(f, " {slot}")?;
         }
-    }
-    if row.committed == 0 {
-        writeln!(out, " none")
-    } else {
-        writeln!(out, "")
-    }
-}
-
-fn put_pages(table: &Table, out: &mut Printout) -> Result<(), AllocError> {
-    for page in Pages::of(table) {
-        let row = table.page_at(page);
-        let taken = row.taken;
-        write!(out, "  page {page}: taken {taken}, committed")?;
-        put_slots(row, out)?;
-    }
-    Ok(())
-}
-
-fn put_new_pages(left: u8, right: u8, out: &mut Printout) -> Result<(), AllocError> {
-    if right == 0 {
-        write!(out, "{left}")
-    } else {
-        write!(out, "{left} and {right}")
-    }
-}
-
-fn put_split<K: KeyText>(split: Split, out: &mut Printout) -> Result<(), AllocError> {
-    let old = split.old;
-    write!(out, "  split: page {old} into ")?;
-    put_new_pages(split.left, split.right, out)?;
-    write!(out, " at ")?;
-    put_key::<K>(split.key, out)?;
-    write!(out, ", ")?;
-    put_progress(split.progress, split.right != 0, out)?;
-    writeln!(out, "")
-}
-
-fn operation_name(operation: Operation) -> &'static str {
-    match operation {
-        Operation::Enter => "enter",
-        Operation::Change => "change",
-        Operation::Remove => "remove",
-        Operation::Look => "look",
-    }
-}
-
-// What an open runner was asked for, and where it stands.
-fn put_open<K: KeyText>(runner: Runner, out: &mut Printout) -> Result<(), AllocError> {
-    let name = operation_name(runner.operation);
-    write!(out, "{name} ")?;
-    put_key::<K>(runner.key, out)?;
-    match runner.operation {
-        Operation::Enter | Operation::Change => {
-            let value = value_of(runner.word);
-            write!(out, " {value} ")?
+        if row.committed == 0 {
+            write!(f, " none")?;
         }
-        Operation::Remove | Operation::Look => write!(out, " ")?,
+        Ok(())
     }
-    put_stage(runner.stage, out)?;
-    writeln!(out, "")
 }
 
-// `number` is the runner's, from 1.
-fn put_runner<K: KeyText>(
+// `key` is the split's, as the kind shows it.
+#[derive(Drop)]
+struct SplitText<P> {
+    split: Split,
+    key: KeyWord<P>,
+}
+
+impl<P: fmt::Display> fmt::Display for SplitText<P> {
+    fn fmt<W: fmt::Write>(&self, f: &mut fmt::Formatter<W>) -> fmt::Result {
+        let split = self.split;
+        write!(f, "page {} into {}", split.old, split.left)?;
+        if split.right != 0 {
+            write!(f, " and {}", split.right)?;
+        }
+        write!(f, " at {}, {}", self.key, ProgressText(split))
+    }
+}
+
+// What a runner was asked for, and where it stands. `number` is the runner's, from 1, and `key` its key as the kind shows it.
+#[derive(Drop)]
+struct RunnerText<P> {
     number: u8,
     runner: Runner,
-    out: &mut Printout,
-) -> Result<(), AllocError> {
-    write!(out, "  runner {number}: ")?;
-    match runner.stage {
-        Stage::Idle => writeln!(out, "idle"),
-        Stage::Answered { answer, value } => {
-            write!(out, "answered ")?;
-            let line = AnswerLine {
-                runner: number as u32,
-                answer: answer.number() as u32,
-                value,
-            };
-            put_answer(line, 2, out)
+    key: KeyWord<P>,
+}
+
+impl<P: fmt::Display> fmt::Display for RunnerText<P> {
+    fn fmt<W: fmt::Write>(&self, f: &mut fmt::Formatter<W>) -> fmt::Result {
+        let runner = self.runner;
+        match runner.stage {
+            Stage::Idle => write!(f, "idle"),
+            Stage::Answered { answer, value } => {
+                let line = answer_line(u32::from(self.number), answer, value);
+                write!(f, "answered {}", ToldText(line))
+            }
+            stage => {
+                write!(f, "{} {} ", runner.operation, self.key)?;
+                if matches!(runner.operation, Operation::Enter | Operation::Change) {
+                    write!(f, "{} ", value_of(runner.word))?;
+                }
+                write!(f, "{}", StageText(stage))
+            }
         }
-        _ => put_open::<K>(runner, out),
     }
 }
 
-fn put_runners<K: KeyText>(table: &Table, out: &mut Printout) -> Result<(), AllocError> {
-    for i in 0..table.count {
-        put_runner::<K>(i + 1, table.runner_at(i as usize), out)?;
-    }
-    Ok(())
+// The table under a kind of keys.
+#[derive(Drop)]
+pub(crate) struct TableText<K> {
+    table: Table,
+    kind: PhantomData<K>,
 }
 
-pub(crate) fn put_table<K: KeyText>(table: &Table, out: &mut Printout) -> Result<(), AllocError> {
-    if !table.opened {
-        return writeln!(out, "  closed");
+impl<K: KeyText> TableText<K> {
+    pub(crate) fn of(table: Table) -> TableText<K> {
+        TableText {
+            table,
+            kind: PhantomData,
+        }
     }
-    let runners = table.count;
-    let round = table.round;
-    let last = table.last;
-    writeln!(
-        out,
-        "  open: runners {runners}, round at page {round}, last number {last}"
-    )?;
-    put_pages(table, out)?;
-    match table.split {
-        Some(split) => put_split::<K>(split, out)?,
-        None => writeln!(out, "  no split")?,
+
+    fn write_pages<W: fmt::Write>(&self, f: &mut fmt::Formatter<W>) -> fmt::Result {
+        for page in Pages::of(&self.table) {
+            writeln!(f, "  page {page}: {}", SlotsText(self.table.page_at(page)))?;
+        }
+        Ok(())
     }
-    put_runners::<K>(table, out)
+
+    fn write_split<W: fmt::Write>(&self, f: &mut fmt::Formatter<W>) -> fmt::Result {
+        match self.table.split {
+            Some(split) => {
+                let key = key_word::<K>(split.key);
+                writeln!(f, "  split: {}", SplitText { split, key })
+            }
+            None => writeln!(f, "  no split"),
+        }
+    }
+
+    fn write_runners<W: fmt::Write>(&self, f: &mut fmt::Formatter<W>) -> fmt::Result {
+        for (number, runner) in (1..=self.table.count).zip(self.table.runners) {
+            let key = key_word::<K>(runner.key);
+            writeln!(
+                f,
+                "  runner {number}: {}",
+                RunnerText {
+                    number,
+                    runner,
+                    key
+                }
+            )?;
+        }
+        Ok(())
+    }
+}
+
+impl<K: KeyText> fmt::Display for TableText<K> {
+    fn fmt<W: fmt::Write>(&self, f: &mut fmt::Formatter<W>) -> fmt::Result {
+        let table = &self.table;
+        if !table.opened {
+            return writeln!(f, "  closed");
+        }
+        writeln!(
+            f,
+            "  open: runners {}, round at page {}, last number {}",
+            table.count, table.round, table.last
+        )?;
+        self.write_pages(f)?;
+        self.write_split(f)?;
+        self.write_runners(f)
+    }
 }

@@ -1,133 +1,63 @@
 // How the stage of a runner and the progress of a split are told.
-use crate::printout::Printout;
-use protocol::fields;
-use protocol::table::{Progress, Stage};
-use std::alloc::AllocError;
+use protocol::table::{Progress, Split, Stage};
+use std::fmt;
 
-fn stage_name(stage: Stage) -> &'static str {
-    match stage {
-        Stage::Idle => "idle",
-        Stage::Locating => "locating",
-        Stage::WritingValue { .. } | Stage::WritingKey { .. } | Stage::Committing { .. } =>
-            "writing",
-        Stage::Helping => "helping",
-        Stage::Acting { .. } => "acting",
-        Stage::PendingNew { .. } | Stage::PendingOld { .. } => "pending",
-        Stage::PendingSwap { .. } | Stage::PendingRemove { .. } => "pending",
-        Stage::Comparing { .. } | Stage::ComparingSwap { .. } => "comparing",
-        Stage::Reading { .. } => "reading",
-        Stage::Answered { .. } => "answered",
+// The stage's name, then the page that the runner holds, the slot that it writes or has changed, and which step of the stage comes next.
+#[derive(Drop)]
+pub(crate) struct StageText(pub(crate) Stage);
+
+impl fmt::Display for StageText {
+    fn fmt<W: fmt::Write>(&self, f: &mut fmt::Formatter<W>) -> fmt::Result {
+        match self.0 {
+            Stage::Idle => write!(f, "idle"),
+            Stage::Locating => write!(f, "locating"),
+            Stage::WritingValue { page, slot } => write!(
+                f,
+                "writing page {page} slot {slot} step 1"
+            ),
+            Stage::WritingKey { page, slot } => write!(f, "writing page {page} slot {slot} step 2"),
+            Stage::Committing { page, slot } => write!(f, "writing page {page} slot {slot} step 3"),
+            Stage::Helping => write!(f, "helping"),
+            Stage::Acting { page } => write!(f, "acting page {page}"),
+            Stage::PendingNew { page, slot } => write!(f, "pending page {page} slot {slot} step 1"),
+            Stage::PendingOld { page, slot, .. } => write!(
+                f,
+                "pending page {page} slot {slot} step 2"
+            ),
+            Stage::PendingSwap { page, slot, .. } => write!(
+                f,
+                "pending page {page} slot {slot} step 3"
+            ),
+            Stage::PendingRemove { page } => write!(f, "pending page {page} step 1"),
+            Stage::Comparing { page, .. } => write!(f, "comparing page {page} step 1"),
+            Stage::ComparingSwap { page, .. } => write!(f, "comparing page {page} step 2"),
+            Stage::Reading { page } => write!(f, "reading page {page}"),
+            Stage::Answered { .. } => write!(f, "answered"),
+        }
     }
 }
 
-// The slot that a runner writes, or has changed.
-fn stage_slot(stage: Stage) -> Option<u8> {
-    match stage {
-        Stage::WritingValue { slot, .. }
-        | Stage::WritingKey { slot, .. }
-        | Stage::Committing { slot, .. } => Some(slot),
-        Stage::PendingNew { slot, .. }
-        | Stage::PendingOld { slot, .. }
-        | Stage::PendingSwap { slot, .. } => Some(slot),
-        _ => None,
-    }
-}
+// What the next step of a split is about. There are 8 keys and 2 header words to store for each new page.
+#[derive(Drop)]
+pub(crate) struct ProgressText(pub(crate) Split);
 
-// Which step of its stage comes next, from 1, where a stage has several.
-fn stage_step(stage: Stage) -> Option<u8> {
-    match stage {
-        Stage::WritingValue { .. }
-        | Stage::PendingNew { .. }
-        | Stage::PendingRemove { .. }
-        | Stage::Comparing { .. } => Some(1),
-        Stage::WritingKey { .. } | Stage::PendingOld { .. } | Stage::ComparingSwap { .. } => Some(
-            2,
-        ),
-        Stage::Committing { .. } | Stage::PendingSwap { .. } => Some(3),
-        _ => None,
+impl fmt::Display for ProgressText {
+    fn fmt<W: fmt::Write>(&self, f: &mut fmt::Formatter<W>) -> fmt::Result {
+        let (keys, words) = if self.0.right == 0 { (8, 2) } else { (16, 4) };
+        match self.0.progress {
+            Progress::Clearing { done } => write!(f, "copy clearing {done} of {keys}"),
+            Progress::LeftNext => write!(f, "copy header 0 of {words}"),
+            Progress::LeftLow => write!(f, "copy header 1 of {words}"),
+            Progress::RightNext => write!(f, "copy header 2 of {words}"),
+            Progress::RightLow => write!(f, "copy header 3 of {words}"),
+            Progress::Copying { slot } => write!(f, "copy slot {slot} step 1"),
+            Progress::CopyingValue { slot, .. } => write!(f, "copy slot {slot} step 2"),
+            Progress::CopyingKey { slot, .. } => write!(f, "copy slot {slot} step 3"),
+            Progress::Syncing { slot } => write!(f, "sync slot {slot} step 1"),
+            Progress::SyncingNew { slot, .. } => write!(f, "sync slot {slot} step 2"),
+            Progress::SyncingSwap { slot, .. } => write!(f, "sync slot {slot} step 3"),
+            Progress::Linking => write!(f, "link not stored"),
+            Progress::Finishing => write!(f, "link stored"),
+        }
     }
-}
-
-pub(crate) fn put_stage(stage: Stage, out: &mut Printout) -> Result<(), AllocError> {
-    let name = stage_name(stage);
-    write!(out, "{name}")?;
-    if let Some(page) = stage.held() {
-        write!(out, " page {page}")?;
-    }
-    if let Some(slot) = stage_slot(stage) {
-        write!(out, " slot {slot}")?;
-    }
-    if let Some(step) = stage_step(stage) {
-        write!(out, " step {step}")?;
-    }
-    Ok(())
-}
-
-fn progress_name(progress: Progress) -> &'static str {
-    match progress {
-        Progress::Clearing { .. } => "copy clearing",
-        Progress::LeftNext | Progress::LeftLow | Progress::RightNext | Progress::RightLow =>
-            "copy header",
-        Progress::Copying { .. } | Progress::CopyingValue { .. } | Progress::CopyingKey { .. } =>
-            "copy slot",
-        Progress::Syncing { .. } | Progress::SyncingNew { .. } | Progress::SyncingSwap { .. } =>
-            "sync slot",
-        Progress::Linking => "link not stored",
-        Progress::Finishing => "link stored",
-    }
-}
-
-// How many keys or words of the new pages are stored already, or which slot of the old page is the turn of.
-fn progress_at(progress: Progress) -> u8 {
-    match progress {
-        Progress::Clearing { done } => done,
-        Progress::LeftNext | Progress::Linking | Progress::Finishing => 0,
-        Progress::LeftLow => 1,
-        Progress::RightNext => 2,
-        Progress::RightLow => 3,
-        Progress::Copying { slot }
-        | Progress::CopyingValue { slot, .. }
-        | Progress::CopyingKey { slot, .. } => slot,
-        Progress::Syncing { slot }
-        | Progress::SyncingNew { slot, .. }
-        | Progress::SyncingSwap { slot, .. } => slot,
-    }
-}
-
-// How many keys or words there are to store; `two` is whether there are two new pages.
-fn progress_size(progress: Progress, two: bool) -> Option<u8> {
-    match progress {
-        Progress::Clearing { .. } => Some(if two { 16 } else { 8 }),
-        Progress::LeftNext | Progress::LeftLow | Progress::RightNext | Progress::RightLow => Some(
-            if two { 4 } else { 2 },
-        ),
-        _ => None,
-    }
-}
-
-// Which step of a slot comes next, from 1.
-fn progress_step(progress: Progress) -> Option<u8> {
-    match progress {
-        Progress::Copying { .. } | Progress::Syncing { .. } => Some(1),
-        Progress::CopyingValue { .. } | Progress::SyncingNew { .. } => Some(2),
-        Progress::CopyingKey { .. } | Progress::SyncingSwap { .. } => Some(3),
-        _ => None,
-    }
-}
-
-pub(crate) fn put_progress(
-    progress: Progress,
-    two: bool,
-    out: &mut Printout,
-) -> Result<(), AllocError> {
-    let name = progress_name(progress);
-    let at = progress_at(progress);
-    write!(out, "{name}")?;
-    if let Some(size) = progress_size(progress, two) {
-        write!(out, " {at} of {size}")?;
-    }
-    if let Some(step) = progress_step(progress) {
-        write!(out, " {at} step {step}")?;
-    }
-    Ok(())
 }
