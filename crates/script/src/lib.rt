@@ -10,13 +10,10 @@ mod run;
 mod show;
 mod stages;
 
-use commands::reader::Reader;
-use run::run_script;
+use run::Run;
 use std::alloc::{AllocError, Global};
 
 // What a script prints.
 pub fn printed(heap: Global, script: &[u8]) -> Result<String, AllocError> {
-    let mut out = String::new(heap);
-    run_script(heap, &mut Reader::new(script), &mut out)?;
-    Ok(out)
+    Run::new(heap, script).printed()
 }
