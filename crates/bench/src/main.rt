@@ -8,6 +8,5 @@ use std::io::Read;
 fn main(rt: HostRuntime) -> io::Result<()> {
     let mut script = Vec::new(rt.alloc());
     rt.stdin().read_to_end(&mut script)?;
-    let text = printed(rt.alloc(), script.as_slice())?;
-    rt.print(text)
+    rt.print(printed(rt.alloc(), &script)?)
 }

@@ -1,4 +1,4 @@
-// The bench: reads a script from standard input and prints what it comes to.
+// The bench once more, with the long scripts: a program has one stored input.
 #![tactic(auto)]
 
 use script::printed;
@@ -8,6 +8,5 @@ use std::io::Read;
 fn main(rt: HostRuntime) -> io::Result<()> {
     let mut script = Vec::new(rt.alloc());
     rt.stdin().read_to_end(&mut script)?;
-    let text = printed(rt.alloc(), script.as_slice())?;
-    rt.print(text)
+    rt.print(printed(rt.alloc(), &script)?)
 }
