@@ -1,9 +1,8 @@
 // What the lines of a script do to a book while it lives.
-use crate::answer::{AnswerText, answer_line};
+use crate::answer::AnswerText;
 use crate::key_text::KeyText;
 use crate::pairs::PairsText;
 use crate::show::TableText;
-use answers::AnswerLine;
 use book::book::Book;
 use commands::command::Command;
 use keys::kind::KeyKind;
@@ -18,10 +17,7 @@ fn step<M: KeptMemory, K: KeyKind>(
     runner: u32,
     times: u32,
 ) -> Result<(), Refusal> {
-    for _ in 0..times {
-        book.step(runner)?;
-    }
-    Ok(())
+    (0..times).try_for_each(|_| book.step(runner))
 }
 
 // Steps of a runner until it is answered, at least one; gives how many.
@@ -40,7 +36,7 @@ fn finish<M: KeptMemory, K: KeyKind>(book: &mut Book<M, K>, runner: u32) -> Resu
 #[derive(Drop)]
 struct Collected {
     zeros: usize,
-    line: AnswerLine,
+    line: AnswerText,
 }
 
 impl fmt::Display for Collected {
@@ -48,7 +44,7 @@ impl fmt::Display for Collected {
         for _ in 0..self.zeros {
             write!(f, "0")?;
         }
-        write!(f, "{}", AnswerText(self.line))
+        write!(f, "{}", self.line)
     }
 }
 
@@ -58,8 +54,14 @@ fn collect<M: KeptMemory, K: KeyKind>(
     zeros: usize,
 ) -> Result<Collected, Refusal> {
     let (answer, value) = book.collect(runner)?;
-    let line = answer_line(runner, answer, value);
+    let line = AnswerText::of(runner, answer, value);
     Ok(Collected { zeros, line })
+}
+
+// What a rebuild would find.
+fn pairs<M: KeptMemory, K: KeyText>(book: &Book<M, K>) -> Result<PairsText<M, K>, Refusal> {
+    let table = book.survey(1)?;
+    Ok(PairsText::of(book.memory(), table))
 }
 
 // How many steps a runner took until it was answered.
@@ -114,13 +116,7 @@ pub(crate) fn perform<M: KeptMemory, K: KeyText>(
         Command::Finish(runner) => tell(finish(book, runner).map(Steps), out),
         Command::Collect { runner, zeros } => tell(collect(book, runner, zeros), out),
         Command::Word(at) => tell(book.memory().load(at), out),
-        Command::Pairs => {
-            let table = book.survey(1);
-            tell(
-                table.map(|table| PairsText::<M, K>::of(book.memory(), table)),
-                out,
-            )
-        }
+        Command::Pairs => tell(pairs(book), out),
         Command::Show => write!(out, "{}", TableText::<K>::of(book.table())),
         Command::Unreadable(line) => writeln!(out, "unreadable {line}"),
         Command::Nothing

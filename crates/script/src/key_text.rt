@@ -30,23 +30,17 @@ impl KeyText for Plate {
 
 // A word as a script writes it under a kind: a key by its parts, any other word as `@WORD`.
 #[derive(Drop)]
-pub(crate) enum KeyWord<P> {
-    Key(P),
-    Word(u64),
-}
+pub(crate) struct KeyWord<P>(Result<P, u64>);
 
 pub(crate) fn key_word<K: KeyText>(word: u64) -> KeyWord<K::Parts> {
-    match K::parts(word) {
-        Ok(parts) => KeyWord::Key(parts),
-        Err(_) => KeyWord::Word(word),
-    }
+    KeyWord(K::parts(word).map_err(|_| word))
 }
 
 impl<P: fmt::Display> fmt::Display for KeyWord<P> {
     fn fmt<W: fmt::Write>(&self, f: &mut fmt::Formatter<W>) -> fmt::Result {
-        match self {
-            KeyWord::Key(parts) => write!(f, "{parts}"),
-            KeyWord::Word(word) => write!(f, "@{word}"),
+        match &self.0 {
+            Ok(parts) => write!(f, "{parts}"),
+            Err(word) => write!(f, "@{word}"),
         }
     }
 }

@@ -43,6 +43,7 @@ impl<'a> Run<'a> {
         ensures { IfOk result (ReadOn self.old.reader.rest.now self.new.reader.rest.now) }
     {
         let mut book: Book<&mut M, K> = Book::closed(memory);
+        // Not a `for` over `by_ref`: tried, and the proof of what is promised did not close.
         while let Some(command) = self.reader.next() {
             match command {
                 Command::Memory(..) | Command::Kind(_) | Command::Cut | Command::Set { .. } =>

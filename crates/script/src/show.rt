@@ -1,10 +1,9 @@
 // The state of a book, for a person: its table, line by line.
-use crate::answer::{ToldText, answer_line};
 use crate::key_text::{KeyText, KeyWord, key_word};
 use crate::pages::Pages;
 use crate::stages::{ProgressText, StageText};
 use protocol::numbers::Operation;
-use protocol::table::{PageRow, Runner, Split, Stage, Table};
+use protocol::table::{Activity, PageRow, Runner, Split, Table};
 use protocol::{fields, rows};
 use std::fmt;
 use std::marker::PhantomData;
@@ -57,20 +56,17 @@ struct RunnerText<P> {
 impl<P: fmt::Display> fmt::Display for RunnerText<P> {
     fn fmt<W: fmt::Write>(&self, f: &mut fmt::Formatter<W>) -> fmt::Result {
         let runner = self.runner;
-        match runner.stage {
-            Stage::Idle => write!(f, "idle"),
-            Stage::Answered { answer, value } => {
-                let line = answer_line(u32::from(self.number), answer, value);
-                write!(f, "answered {}", ToldText(line))
-            }
-            stage => {
-                write!(f, "{} {} ", runner.operation, self.key)?;
-                if matches!(runner.operation, Operation::Enter | Operation::Change) {
-                    write!(f, "{} ", value_of(runner.word))?;
-                }
-                write!(f, "{}", StageText(stage))
+        if matches!(runner.stage.activity(), Activity::Open) {
+            write!(f, "{} {} ", runner.operation, self.key)?;
+            if matches!(runner.operation, Operation::Enter | Operation::Change) {
+                write!(f, "{} ", value_of(runner.word))?;
             }
         }
+        let stage = StageText {
+            runner: self.number,
+            stage: runner.stage,
+        };
+        write!(f, "{stage}")
     }
 }
 

@@ -1,14 +1,19 @@
 // How the stage of a runner and the progress of a split are told.
+use crate::answer::AnswerText;
 use protocol::table::{Progress, Split, Stage};
 use std::fmt;
 
 // The stage's name, then the page that the runner holds, the slot that it writes or has changed, and which step of the stage comes next.
+// `runner` is the runner's number, from 1.
 #[derive(Drop)]
-pub(crate) struct StageText(pub(crate) Stage);
+pub(crate) struct StageText {
+    pub(crate) runner: u8,
+    pub(crate) stage: Stage,
+}
 
 impl fmt::Display for StageText {
     fn fmt<W: fmt::Write>(&self, f: &mut fmt::Formatter<W>) -> fmt::Result {
-        match self.0 {
+        match self.stage {
             Stage::Idle => write!(f, "idle"),
             Stage::Locating => write!(f, "locating"),
             Stage::WritingValue { page, slot } => write!(
@@ -32,7 +37,10 @@ impl fmt::Display for StageText {
             Stage::Comparing { page, .. } => write!(f, "comparing page {page} step 1"),
             Stage::ComparingSwap { page, .. } => write!(f, "comparing page {page} step 2"),
             Stage::Reading { page } => write!(f, "reading page {page}"),
-            Stage::Answered { .. } => write!(f, "answered"),
+            Stage::Answered { answer, value } => {
+                let told = AnswerText::of(u32::from(self.runner), answer, value).without_runner();
+                write!(f, "answered {told}")
+            }
         }
     }
 }
