@@ -17,6 +17,7 @@ use memory::flat::FlatMemory;
 use memory::kept::KeptMemory;
 use std::alloc::{AllocError, Global};
 
+// What is left of the script, what it has printed so far, and the kind that it is at.
 #[derive(Drop)]
 pub(crate) struct Run<'a> {
     heap: Global,
