@@ -1,3 +1,2 @@
 pub mod Line
-pub mod Put
 pub mod Refusals

@@ -30,6 +30,7 @@ impl fmt::Display for PlaceParts {
     }
 }
 
+// One function a rule, here and below: each has its own range.
 fn is_level(level: i32) -> bool
     ensures { result ≡ level_good level }
 {
@@ -89,6 +90,7 @@ impl KeyKind for Place {
 }
 
 impl Place {
+    // Not `TryFrom`, here and for plates: a key is a plain word, and `u64::try_from` would not say of which kind.
     // The key of a place, which comes apart into its parts again.
     #[tactic(auto, using(crate::specs::PlaceWords::made_of_good, crate::specs::PlaceWords::made_and_parted))]
     pub fn make(parts: PlaceParts) -> Result<u64, Refusal>

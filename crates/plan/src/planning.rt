@@ -46,6 +46,7 @@ fn commit(index: usize, page: u8, slot: u8) -> Move
     }
 }
 
+// A match on stage and standing is this project's form for a step, as is that on the progress for a split's.
 fn plan_at<M: KeptMemory, K: KeyKind>(
     view: &View<M, K>,
     turn: Turn,

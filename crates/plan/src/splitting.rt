@@ -118,6 +118,7 @@ impl<'v, 'a, M: KeptMemory, K: KeyKind> SplitStep<'v, 'a, M, K> {
         ensures { result ≡ copied K.before self.now.split slot key }
     {
         let mut next = self.split;
+        // Not `get_mut`, after which a proof knows no element of an array.
         if usize::from(slot) < next.copies.len() {
             next.copies[usize::from(slot)] = NewSlot {
                 page: self.new_page(key),

@@ -1,4 +1,4 @@
-// Where the words of a page stand in the row.
+// Where the words of a page stand in the row: one function a rule.
 ghost use Rattle.std.specs.Prelude.{◌≡◌};
 ghost use Rattle.protocol.specs.Layout.{page_start, next_at, low_at, key_at, value_at};
 
