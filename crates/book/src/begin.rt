@@ -72,7 +72,7 @@ fn begin_with<K: KeyKind>(
     key: u64,
     value: u32,
 ) -> Result<(), Refusal>
-    ensures { (table.new, result) ≡ begun_with K.KeyKind.key table.old i key value operation }
+    ensures { (table.new, result) ≡ begun_with K.key table.old i key value operation }
 {
     if !K::is_key(key) {
         return Err(Refusal::NotAKey);
@@ -92,7 +92,7 @@ impl<M: KeptMemory, K: KeyKind> Book<M, K> {
         key: u64,
         value: u32,
     ) -> Result<(), Refusal>
-        ensures after { (self.new.table, result) ≡ begun K.KeyKind.key self.old.table runner operation key value }
+        ensures after { (self.new.table, result) ≡ begun K.key self.old.table runner operation key value }
         ensures same { self.new.memory ≡ self.old.memory }
     {
         let i = runner_index(&self.table, runner)?;

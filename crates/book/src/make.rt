@@ -11,8 +11,8 @@ use protocol::table::{PageRow, Table};
 use survey::check_size;
 
 fn store_all<M: KeptMemory>(memory: &mut M, stores: &[(usize, u64)])
-    ensures row { M.KeptMemory.words memory.new ≡ all_stored (M.KeptMemory.words memory.old) stores.now }
-    ensures beside { M.KeptMemory.rest memory.new ≡ M.KeptMemory.rest memory.old }
+    ensures row { M.words memory.new ≡ all_stored (M.words memory.old) stores.now }
+    ensures beside { M.rest memory.new ≡ M.rest memory.old }
 {
     for (at, word) in stores {
         let _ = memory.store(*at, *word);
@@ -29,8 +29,8 @@ fn new_table(count: u8) -> Table
 
 // The head is 0 until all else is stored, so that a cut in between leaves no half-made book.
 fn store_new_book<M: KeptMemory>(memory: &mut M)
-    ensures row { M.KeptMemory.words memory.new ≡ all_stored (M.KeptMemory.words memory.old) make_stores }
-    ensures beside { M.KeptMemory.rest memory.new ≡ M.KeptMemory.rest memory.old }
+    ensures row { M.words memory.new ≡ all_stored (M.words memory.old) make_stores }
+    ensures beside { M.rest memory.new ≡ M.rest memory.old }
 {
     store_all(
         memory,
@@ -54,8 +54,8 @@ fn store_new_book<M: KeptMemory>(memory: &mut M)
 impl<M: KeptMemory, K: KeyKind> Book<M, K> {
     // Makes a new book for some runners.
     pub fn make(&mut self, runners: u32) -> Result<(), Refusal>
-        ensures after { (M.KeptMemory.words self.new.memory, self.new.table, result) ≡ made (M.KeptMemory.words self.old.memory) self.old.table runners }
-        ensures beside { M.KeptMemory.rest self.new.memory ≡ M.KeptMemory.rest self.old.memory }
+        ensures after { (M.words self.new.memory, self.new.table, result) ≡ made (M.words self.old.memory) self.old.table runners }
+        ensures beside { M.rest self.new.memory ≡ M.rest self.old.memory }
     {
         check_size(&self.memory, runners)?;
         store_new_book(&mut self.memory);

@@ -13,14 +13,14 @@ use survey::survey;
 impl<M: KeptMemory, K: KeyKind> Book<M, K> {
     // The table that a rebuild for some runners would set; nothing changes.
     pub fn survey(&self, runners: u32) -> Result<Table, Refusal>
-        ensures { result ≡ surveyed K.KeyKind.key K.KeyKind.before (M.KeptMemory.words self.now.memory) runners }
+        ensures { result ≡ surveyed K.key K.before (M.words self.now.memory) runners }
     {
         survey::<M, K>(&self.memory, runners)
     }
 
     // Opens the book that stands in the row.
     pub fn rebuild(&mut self, runners: u32) -> Result<(), Refusal>
-        ensures after { (self.new.table, result) ≡ rebuilt K.KeyKind.key K.KeyKind.before (M.KeptMemory.words self.old.memory) self.old.table runners }
+        ensures after { (self.new.table, result) ≡ rebuilt K.key K.before (M.words self.old.memory) self.old.table runners }
         ensures same { self.new.memory ≡ self.old.memory }
     {
         self.table = self.survey(runners)?;

@@ -27,8 +27,8 @@ pub(crate) fn runner_index(table: &Table, runner: u32) -> Result<usize, Refusal>
 impl<M: KeptMemory, K: KeyKind> Book<M, K> {
     // One step of an open runner, counted from 1.
     pub fn step(&mut self, runner: u32) -> Result<(), Refusal>
-        ensures after { (M.KeptMemory.words self.new.memory, self.new.table, result) ≡ stepped K.KeyKind.before (M.KeptMemory.words self.old.memory) self.old.table runner }
-        ensures beside { M.KeptMemory.rest self.new.memory ≡ M.KeptMemory.rest self.old.memory }
+        ensures after { (M.words self.new.memory, self.new.table, result) ≡ stepped K.before (M.words self.old.memory) self.old.table runner }
+        ensures beside { M.rest self.new.memory ≡ M.rest self.old.memory }
     {
         let index = runner_index(&self.table, runner)?;
         let runner = self.table.runner_at(index);

@@ -21,7 +21,7 @@ fn count_keys(keys: &[u64]) -> usize
 // Ranks are counted in loops over a page's keys: this project's form for the split key.
 #[tactic(auto, using(protocol::proofs::Ranks::rank_more, protocol::proofs::Ranks::rank_all))]
 fn rank_of<K: KeyKind>(keys: &[u64], key: u64) -> usize
-    ensures { result ≡ rank K.KeyKind.before key keys.now }
+    ensures { result ≡ rank K.before key keys.now }
 {
     let mut n = 0;
     for other in keys {
@@ -35,7 +35,7 @@ fn rank_of<K: KeyKind>(keys: &[u64], key: u64) -> usize
 // The key with just half of the keys before it.
 #[tactic(auto, using(protocol::proofs::Ranks::ranked_more, protocol::proofs::Ranks::ranked_all))]
 fn parting_key<K: KeyKind>(keys: &[u64]) -> u64
-    ensures { result ≡ split_key K.KeyKind.before keys.now }
+    ensures { result ≡ split_key K.before keys.now }
 {
     let half = count_keys(keys) / 2;
     for (slot, key) in keys.iter().enumerate() {
@@ -158,7 +158,7 @@ impl<'a> Starter<'a> {
 // Up to four keys go into one new page, more into two.
 fn start_with<K: KeyKind>(table: &Table, pages: u8, index: usize, page: u8, keys: &[u64]) -> Move
     requires { pages ≤ 64 }
-    ensures { result ≡ starting_with K.KeyKind.before table.now pages index page keys.now }
+    ensures { result ≡ starting_with K.before table.now pages index page keys.now }
 {
     let starter = Starter {
         table,

@@ -7,9 +7,9 @@ use protocol::moves::{Access, Outcome};
 use search::word;
 
 pub fn perform<M: KeptMemory>(memory: &mut M, access: Access) -> Outcome
-    ensures row { M.KeptMemory.words memory.new ≡ performed (M.KeptMemory.words memory.old) access }
-    ensures answer { result ≡ outcome (M.KeptMemory.words memory.old) access }
-    ensures beside { M.KeptMemory.rest memory.new ≡ M.KeptMemory.rest memory.old }
+    ensures row { M.words memory.new ≡ performed (M.words memory.old) access }
+    ensures answer { result ≡ outcome (M.words memory.old) access }
+    ensures beside { M.rest memory.new ≡ M.rest memory.old }
 {
     match access {
         Access::Nothing => Outcome::Nothing,

@@ -23,7 +23,7 @@ fn with_listed(table: Table, page: u8, next: u8) -> Table
 // Follows the next words from a page on; the table has the pages so far.
 #[tactic(auto, using(protocol::proofs::Rebuilds::chain_more, protocol::proofs::Rebuilds::chain_none, crate::proofs::Walks::follow_step))]
 fn follow<M: KeptMemory>(memory: &M, table: Table, first: u8) -> Result<Table, Refusal>
-    ensures { result ≡ chain_from (M.KeptMemory.words memory.now) table first 64 }
+    ensures { result ≡ chain_from (M.words memory.now) table first 64 }
 {
     let pages = pages_of(memory);
     // The index only bounds the walk, which makes the list that an iterator could go over.
@@ -45,7 +45,7 @@ fn follow<M: KeptMemory>(memory: &M, table: Table, first: u8) -> Result<Table, R
 
 // The list from the head on.
 fn follow_head<M: KeptMemory>(memory: &M, count: u8) -> Result<Table, Refusal>
-    ensures { result ≡ chained (M.KeptMemory.words memory.now) count }
+    ensures { result ≡ chained (M.words memory.now) count }
 {
     let head = word(memory, 0);
     if head == 0 {
@@ -58,7 +58,7 @@ fn follow_head<M: KeptMemory>(memory: &M, count: u8) -> Result<Table, Refusal>
 }
 
 fn low_comes_before<K: KeyKind>(low: u64, key: u64) -> bool
-    ensures { result ≡ low_before K.KeyKind.before low key }
+    ensures { result ≡ low_before K.before low key }
 {
     low == 0 || K::comes_before(low, key)
 }
@@ -100,7 +100,7 @@ fn are_lows_right<M: KeptMemory, K: KeyKind>(view: &View<M, K>) -> bool
 
 // The low of the page after, 0 if there is none.
 fn upper_low<M: KeptMemory>(memory: &M, table: &Table, page: u8) -> u64
-    ensures { result ≡ upper (M.KeptMemory.words memory.now) table.now page }
+    ensures { result ≡ upper (M.words memory.now) table.now page }
 {
     match table.page_at(page).next {
         0 => 0,
@@ -117,7 +117,7 @@ struct Bounds {
 
 impl Bounds {
     fn holds<K: KeyKind>(self, key: u64) -> bool
-        ensures { result ≡ in_range K.KeyKind.before self.low self.high key }
+        ensures { result ≡ in_range K.before self.low self.high key }
     {
         (self.low == 0 || !K::comes_before(key, self.low))
             && (self.high == 0 || K::comes_before(key, self.high))
@@ -126,7 +126,7 @@ impl Bounds {
 
 // Whether a slot's word is a key, in its page's range, and not earlier in the page.
 fn is_placed<M: KeptMemory, K: KeyKind>(memory: &M, bounds: Bounds, page: u8, slot: u8) -> bool
-    ensures { result ≡ placed K.KeyKind.key K.KeyKind.before (M.KeptMemory.words memory.now) bounds.low bounds.high page slot }
+    ensures { result ≡ placed K.key K.before (M.words memory.now) bounds.low bounds.high page slot }
 {
     let key = word(memory, key_at(page, slot));
     K::is_key(key) && bounds.holds::<K>(key) && Slots::all(memory, page).find(key) == Some(slot)
@@ -152,7 +152,7 @@ fn survey_slots<M: KeptMemory, K: KeyKind>(
     page: u8,
     last: u32,
 ) -> Result<Tally, Refusal>
-    ensures { result ≡ slots_from K.KeyKind.key K.KeyKind.before (M.KeptMemory.words memory.now) bounds.low bounds.high page (record { taken = 0; committed = 0; last = last }) 0 8 }
+    ensures { result ≡ slots_from K.key K.before (M.words memory.now) bounds.low bounds.high page (record { taken = 0; committed = 0; last = last }) 0 8 }
 {
     let mut tally = Tally {
         taken: 0,
@@ -197,7 +197,7 @@ fn survey_page<M: KeptMemory, K: KeyKind>(
     table: Table,
     page: u8,
 ) -> Result<Table, Refusal>
-    ensures { result ≡ page_surveyed K.KeyKind.key K.KeyKind.before (M.KeptMemory.words memory.now) table page }
+    ensures { result ≡ page_surveyed K.key K.before (M.words memory.now) table page }
 {
     let bounds = Bounds {
         low: word(memory, low_at(page)),
@@ -210,7 +210,7 @@ fn survey_page<M: KeptMemory, K: KeyKind>(
 // The pages of the list, one after the other.
 #[tactic(auto, using(protocol::proofs::Rebuilds::pages_more, protocol::proofs::Rebuilds::pages_none, crate::proofs::Walks::survey_step))]
 fn survey_pages<M: KeptMemory, K: KeyKind>(memory: &M, table: Table) -> Result<Table, Refusal>
-    ensures { result ≡ pages_from K.KeyKind.key K.KeyKind.before (M.KeptMemory.words memory.now) 64 (Ok table) table.first }
+    ensures { result ≡ pages_from K.key K.before (M.words memory.now) 64 (Ok table) table.first }
 {
     // The index only bounds the walk, over the list of a table that changes under way.
     let mut found = table;
@@ -227,7 +227,7 @@ fn survey_pages<M: KeptMemory, K: KeyKind>(memory: &M, table: Table) -> Result<T
 }
 
 fn survey_list<M: KeptMemory, K: KeyKind>(memory: &M, count: u8) -> Result<Table, Refusal>
-    ensures { result ≡ surveyed_list K.KeyKind.key K.KeyKind.before (M.KeptMemory.words memory.now) (chained (M.KeptMemory.words memory.now) count) }
+    ensures { result ≡ surveyed_list K.key K.before (M.words memory.now) (chained (M.words memory.now) count) }
 {
     let table = follow_head(memory, count)?;
     if !are_lows_right::<M, K>(&View::new(memory, &table)) {
@@ -238,7 +238,7 @@ fn survey_list<M: KeptMemory, K: KeyKind>(memory: &M, count: u8) -> Result<Table
 
 // Refused where the row or the count of runners is not taken.
 pub fn check_size<M: KeptMemory>(memory: &M, runners: u32) -> Result<(), Refusal>
-    ensures { elim result [ Ok _ ↦ size_refusal (M.KeptMemory.words memory.now) runners ≡ None | Err e ↦ size_refusal (M.KeptMemory.words memory.now) runners ≡ Some e ] }
+    ensures { elim result [ Ok _ ↦ size_refusal (M.words memory.now) runners ≡ None | Err e ↦ size_refusal (M.words memory.now) runners ≡ Some e ] }
 {
     let count = memory.count();
     if count < 37 || (count - 1) % 18 != 0 || (count - 1) / 18 > 64 {
@@ -252,7 +252,7 @@ pub fn check_size<M: KeptMemory>(memory: &M, runners: u32) -> Result<(), Refusal
 
 // The table that a rebuild for some runners would set.
 pub fn survey<M: KeptMemory, K: KeyKind>(memory: &M, runners: u32) -> Result<Table, Refusal>
-    ensures { result ≡ surveyed K.KeyKind.key K.KeyKind.before (M.KeptMemory.words memory.now) runners }
+    ensures { result ≡ surveyed K.key K.before (M.words memory.now) runners }
 {
     check_size(memory, runners)?;
     survey_list::<M, K>(memory, runners as u8)
