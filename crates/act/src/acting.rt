@@ -1,5 +1,5 @@
 // Acting, pending, comparing and reading: what change, remove and look do at the page they hold.
-ghost use Rattle.std.specs.Prelude.{◌≡◌, Bool};
+ghost use Rattle.std.specs.Prelude.{◌≡◌};
 ghost use Rattle.protocol.specs.Act.{acting_found, acting};
 
 use keys::kind::KeyKind;

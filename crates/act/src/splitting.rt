@@ -1,5 +1,5 @@
 // What a runner does while the page that it holds is splitting: acting, pending, comparing and reading.
-ghost use Rattle.std.specs.Prelude.{◌≡◌, Bool};
+ghost use Rattle.std.specs.Prelude.{◌≡◌};
 ghost use Rattle.protocol.specs.Act.{syncing_found, acting_in_sync, reading, linking_as, acting_in_link, clearing_new, pending_new, pending_at, pending, comparing, comparing_swap};
 ghost use Rattle.std.specs.Prelude.{Some, None};
 ghost use Rattle.protocol.specs.Layout.{value_at};

@@ -1,7 +1,7 @@
 // Begin: a runner takes on an operation.
-ghost use Rattle.std.specs.Prelude.{◌≡◌, ℕ, ◌<◌, Bool};
+ghost use Rattle.std.specs.Prelude.{◌≡◌};
 ghost use Rattle.protocol.specs.Search.{first_from, is_some};
-ghost use Rattle.protocol.specs.Calls.{draws, is_enter, is_open, enters as enters_key, is_resting, begun_drawing, begun_with, begun};
+ghost use Rattle.protocol.specs.Calls.{draws, enters as enters_key, begun_drawing, begun_with, begun};
 
 use crate::book::Book;
 use crate::step::runner_index;

@@ -1,5 +1,5 @@
 // Make: a new, empty book in the row.
-ghost use Rattle.std.specs.Prelude.{◌≡◌, ℕ, List, length};
+ghost use Rattle.std.specs.Prelude.{◌≡◌};
 ghost use Rattle.protocol.specs.Make.{made_table, all_stored, make_stores};
 ghost use Rattle.protocol.specs.Calls.{made};
 

@@ -1,5 +1,5 @@
 // Rebuild: the table again from the row, which is not written.
-ghost use Rattle.std.specs.Prelude.{◌≡◌, Bool};
+ghost use Rattle.std.specs.Prelude.{◌≡◌};
 ghost use Rattle.protocol.specs.Rebuild.{surveyed};
 ghost use Rattle.protocol.specs.Calls.{rebuilt};
 

@@ -1,5 +1,5 @@
 // Step: a runner's next small step.
-ghost use Rattle.std.specs.Prelude.{◌≡◌, ℕ, ◌-◌, Bool, Ok, Err, Some, None};
+ghost use Rattle.std.specs.Prelude.{◌≡◌, ◌-◌, Ok, Err, Some, None};
 ghost use Rattle.protocol.specs.Calls.{runner_refusal, stepped};
 
 use crate::book::Book;

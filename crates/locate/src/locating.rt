@@ -1,5 +1,5 @@
 // Locating: where a key belongs.
-ghost use Rattle.std.specs.Prelude.{◌≡◌, Bool};
+ghost use Rattle.std.specs.Prelude.{◌≡◌};
 ghost use Rattle.protocol.specs.Fields.{page_at, standing};
 ghost use Rattle.protocol.specs.Search.{found};
 ghost use Rattle.protocol.specs.Locate.{takes, crowded, entering_page, entering, locating_page, locating};

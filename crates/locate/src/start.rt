@@ -1,5 +1,5 @@
 // How a split is started: which key parts the page, and which pages are new.
-ghost use Rattle.std.specs.Prelude.{◌≡◌, ℕ, ◌+◌, ◌<◌, ◌≤◌, Bool, true, false, length, Some, None};
+ghost use Rattle.std.specs.Prelude.{◌≡◌, ◌+◌, ◌<◌, ◌≤◌, Some, None};
 ghost use Rattle.protocol.specs.Locate.{key_count, rank, split_key, in_split, free, round_after, round_page, free_from, new_split, starts, into_one, into_second, into_two, starting_with, starting};
 ghost use Rattle.protocol.specs.Moves.{answers};
 ghost use Rattle.protocol.specs.declared.numbers.Answer.TheVariants.{NoRoom};

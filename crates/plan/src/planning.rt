@@ -1,5 +1,5 @@
 // The next step of a runner: its own stage together with the phase of the split decide.
-ghost use Rattle.std.specs.Prelude.{◌≡◌, Bool};
+ghost use Rattle.std.specs.Prelude.{◌≡◌};
 ghost use Rattle.protocol.specs.Plan.{helping, commits, planned_at, planned};
 
 use crate::splitting::SplitStep;

@@ -1,5 +1,5 @@
 // The steps of a split: copy, sync, link.
-ghost use Rattle.std.specs.Prelude.{◌≡◌, Bool, ℕ};
+ghost use Rattle.std.specs.Prelude.{◌≡◌};
 ghost use Rattle.protocol.specs.Fields.{page_at};
 ghost use Rattle.protocol.specs.Search.{new_page, live_from, standing_from, preceding, first_pending};
 ghost use Rattle.protocol.specs.Split.{steps, stores, clearing_at, clearing_after, old_next, left_next, copying, new_count, copied, syncing_slot, syncing, link_at, linking, split_step_at, split_step};

@@ -1,5 +1,5 @@
 -- What a step reads before it acts: key words, low words and the table.
-use Rattle.std.specs.Prelude.{ℕ, zero, suc, ◌+◌, ◌-◌, Bool, true, false, cond, not, ◌&&◌, ◌||◌, List, Some, None, Option, ◌==◌}
+use Rattle.std.specs.Prelude.{ℕ, zero, suc, ◌+◌, ◌-◌, Bool, cond, not, ◌&&◌, ◌||◌, List, Some, None, Option, ◌==◌}
 pub use Rattle.std.specs.Option.{is_some}
 use Rattle.protocol.specs.declared.table.Split.{Split}
 use Rattle.protocol.specs.declared.table.Table.{Table}

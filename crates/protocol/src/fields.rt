@@ -1,6 +1,6 @@
 // How the table's fields are read and written: total, whatever the number.
 ghost use Rattle.std.specs.Prelude.{◌≡◌};
-ghost use Rattle.protocol.specs.Fields.{idle_runner, runner_at, with_runner, page_at, with_page, held, activity as stage_activity, pending_on, phase as progress_phase, in_phase, standing_in, standing as page_standing, not_copied, copy_at, with_progress};
+ghost use Rattle.protocol.specs.Fields.{idle_runner, runner_at, with_runner, page_at, with_page, held, activity as stage_activity, pending_on, phase as progress_phase, in_phase, standing_in, standing as page_standing, copy_at, with_progress};
 ghost use Rattle.protocol.specs.Make.{bare_table};
 ghost use Rattle.protocol.specs.Search.{first_from, is_some, first_pending, precedes, preceding};
 ghost use Rattle.protocol.specs.Locate.{holds_page};

@@ -1,5 +1,5 @@
 // A page record: a page's taken count and committed slots, with no committed slot at or above the taken count.
-ghost use Rattle.std.specs.Prelude.{ℕ, ◌^◌, ◌<◌, ◌≤◌};
+ghost use Rattle.std.specs.Prelude.{◌^◌, ◌<◌, ◌≤◌};
 
 #[derive(Clone, Copy)]
 pub struct PageRecord {

@@ -1,5 +1,5 @@
 // Page rows: a record is made from a row after a check, changed, and its numbers are written back to the row.
-ghost use Rattle.std.specs.Prelude.{◌≡◌, ℕ, ◌-◌, ◌^◌, ◌<◌, ◌≤◌, true, false, Some, None};
+ghost use Rattle.std.specs.Prelude.{◌≡◌, true, false, Some, None};
 ghost use Rattle.protocol.specs.Fields.{committed, sound, row_taken, row_committed, no_page};
 ghost use Rattle.protocol.specs.Settle.{filled, with_next};
 ghost use Rattle.protocol.specs.Split.{slot_after};

@@ -1,5 +1,5 @@
 // What is read of the row.
-ghost use Rattle.std.specs.Prelude.{◌≡◌, ℕ, ◌<◌, ◌≤◌, Bool, true, false, Some, None};
+ghost use Rattle.std.specs.Prelude.{◌≡◌};
 ghost use Rattle.protocol.specs.Layout.{word as word_of, page_count};
 ghost use Rattle.protocol.specs.Search.{stands as slot_stands, standing_from};
 

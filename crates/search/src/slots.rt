@@ -1,5 +1,5 @@
 // The slots of a page: which keys stand in them.
-ghost use Rattle.std.specs.Prelude.{◌≡◌, ℕ, ◌<◌, ◌≤◌, Bool, true, false, Some, None};
+ghost use Rattle.std.specs.Prelude.{◌≡◌};
 ghost use Rattle.protocol.specs.Search.{holds as slot_holds, found, live, live_from};
 ghost use Rattle.protocol.specs.Locate.{live_key, live_keys};
 

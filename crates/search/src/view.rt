@@ -1,5 +1,5 @@
 // What a step sees before it acts: the row, the table, and by the kind the order of the keys.
-ghost use Rattle.std.specs.Prelude.{◌≡◌, ℕ, Bool};
+ghost use Rattle.std.specs.Prelude.{◌≡◌};
 ghost use Rattle.protocol.specs.Fields.{page_at};
 ghost use Rattle.protocol.specs.Search.{on_right, new_page, new_slot, ends_before, covering};
 

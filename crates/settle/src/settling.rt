@@ -1,7 +1,6 @@
 // What becomes of the table once a step's access is made.
-ghost use Rattle.std.specs.Prelude.{◌≡◌, ℕ, Bool, None};
-ghost use Rattle.protocol.specs.Fields.{with_progress, with_stage, with_split};
-ghost use Rattle.protocol.specs.Settle.{loaded_word, did_swap, judged, weighed, stage_after, levelled, linked, with_new_pages, finished, split_goes, table_after, settled};
+ghost use Rattle.std.specs.Prelude.{◌≡◌};
+ghost use Rattle.protocol.specs.Settle.{loaded_word, did_swap, judged, weighed, stage_after, levelled, linked, with_new_pages, finished, table_after, settled};
 
 use protocol::moves::{Move, Outcome, RunnerNext, TableNext};
 use protocol::numbers::Answer;

@@ -1,7 +1,6 @@
 // The table that a rebuild finds in the row, which is checked whole and not written.
-ghost use Rattle.std.specs.Prelude.{◌≡◌, ℕ, ◌<◌, ◌≤◌, Bool, Ok, Err, Some, None};
-ghost use Rattle.protocol.specs.Rebuild.{listing, chain_from, chained, low_before, low_rises, lows_from, lows_right, upper, in_range, placed, tallied, slots_from, page_tally, with_tally, page_surveyed, pages_from, surveyed_list, surveyed, size_refusal};
-ghost use Rattle.protocol.specs.Layout.{page_count};
+ghost use Rattle.std.specs.Prelude.{◌≡◌, ◌<◌, Ok, Err, Some, None};
+ghost use Rattle.protocol.specs.Rebuild.{listing, chain_from, chained, low_before, low_rises, lows_from, lows_right, upper, in_range, placed, tallied, slots_from, with_tally, page_surveyed, pages_from, surveyed_list, surveyed, size_refusal};
 
 use keys::kind::KeyKind;
 use memory::kept::KeptMemory;
