@@ -1,3 +1,4 @@
+// The answer line: what a person reads of one answer.
 #![tactic(auto)]
 
 mod line;

@@ -10,7 +10,7 @@ use crate::row::{RowMemory, WordRow};
 pub type ByteMemory<'a> = RowMemory<&'a mut [u8]>;
 
 impl<'a> ByteMemory<'a> {
-    // The memory is over this very slice (`same`), as it stands (`holds`).
+    // The memory is over this very slice (`same`), as it stands (`holds`). A `new` of its own, as for words.
     pub fn new(bytes: &'a mut [u8]) -> ByteMemory<'a>
         ensures holds { result.row.now ≡ bytes.old }
         ensures same { result.row.ghost_name ≡ bytes.entry.ghost_name }

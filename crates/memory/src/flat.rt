@@ -6,7 +6,7 @@ use crate::row::{RowMemory, WordRow};
 pub type FlatMemory<'a> = RowMemory<&'a mut [u64]>;
 
 impl<'a> FlatMemory<'a> {
-    // The memory is over this very slice (`same`), as it stands (`holds`).
+    // The memory is over this very slice (`same`), as it stands (`holds`). A `new` for each row, since the promise is about the caller's slice, which a row in general has not.
     pub fn new(row: &'a mut [u64]) -> FlatMemory<'a>
         ensures holds { result.row.now ≡ row.old }
         ensures same { result.row.ghost_name ≡ row.entry.ghost_name }
