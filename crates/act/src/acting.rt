@@ -16,6 +16,7 @@ pub(crate) const DONE: Stage = Stage::Answered {
     value: 0,
 };
 
+// Not one function with `sync_found`: what each operation goes on to would be three parameters more, and no rule any plainer.
 fn act_found(turn: Turn, page: u8, slot: u8, operation: Operation) -> Move
     ensures { result ≡ acting_found turn.index turn.runner page slot operation }
 {

@@ -23,6 +23,7 @@ impl Refusal {
     }
 }
 
+// Each refusal's enum has its own numbers, and shows itself so: Display is the library's, which allows no impl for all of them at once.
 impl fmt::Display for Refusal {
     ghost output = { λ refusal. Some (codes "refused " ++ decimal (number_of refusal)) };
 

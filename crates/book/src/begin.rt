@@ -1,7 +1,7 @@
 // Begin: a runner takes on an operation.
 ghost use Rattle.std.specs.Prelude.{◌≡◌};
 ghost use Rattle.protocol.specs.Search.{first_from, is_some};
-ghost use Rattle.protocol.specs.Calls.{draws, enters as enters_key, begun_drawing, begun_with, begun};
+ghost use Rattle.protocol.specs.Calls.{enters as enters_key, begun_drawing, begun_with, begun};
 
 use crate::book::Book;
 use crate::step::runner_index;
@@ -13,13 +13,6 @@ use values::value_word::fresh;
 
 // The largest change number.
 const LAST_NUMBER: u32 = 2147483647;
-
-// Enter and change draw a change number.
-fn draws_number(operation: Operation) -> bool
-    ensures { result ≡ draws operation }
-{
-    matches!(operation, Operation::Enter | Operation::Change)
-}
 
 fn enters(table: &Table, key: u64, i: usize) -> bool
     ensures { result ≡ enters_key table.now key i }
@@ -35,18 +28,25 @@ fn is_being_entered(table: &Table, key: u64) -> bool
     (0..8).any(|i| enters(table, key, i))
 }
 
-// The operation starts at locating; an enter or a change draws its change number.
-fn start(
-    table: &mut Table,
-    i: usize,
+// What a runner is asked for.
+#[derive(Clone, Copy)]
+struct Asked {
     operation: Operation,
     key: u64,
     value: u32,
-) -> Result<(), Refusal>
-    ensures { (table.new, result) ≡ begun_drawing table.old i key value operation }
+}
+
+// The operation starts at locating; an enter or a change draws its change number.
+fn start(table: &mut Table, i: usize, asked: Asked) -> Result<(), Refusal>
+    ensures { (table.new, result) ≡ begun_drawing table.old i asked.key asked.value asked.operation }
 {
+    let Asked {
+        operation,
+        key,
+        value,
+    } = asked;
     let mut word = 0;
-    if draws_number(operation) {
+    if operation.draws() {
         if table.last >= LAST_NUMBER {
             return Err(Refusal::NumbersSpent);
         }
@@ -65,22 +65,16 @@ fn start(
     Ok(())
 }
 
-fn begin_with<K: KeyKind>(
-    table: &mut Table,
-    i: usize,
-    operation: Operation,
-    key: u64,
-    value: u32,
-) -> Result<(), Refusal>
-    ensures { (table.new, result) ≡ begun_with K.key table.old i key value operation }
+fn begin_with<K: KeyKind>(table: &mut Table, i: usize, asked: Asked) -> Result<(), Refusal>
+    ensures { (table.new, result) ≡ begun_with K.key table.old i asked.key asked.value asked.operation }
 {
-    if !K::is_key(key) {
+    if !K::is_key(asked.key) {
         return Err(Refusal::NotAKey);
     }
-    if operation == Operation::Enter && is_being_entered(table, key) {
+    if asked.operation == Operation::Enter && is_being_entered(table, asked.key) {
         return Err(Refusal::BeingEntered);
     }
-    start(table, i, operation, key, value)
+    start(table, i, asked)
 }
 
 impl<M: KeptMemory, K: KeyKind> Book<M, K> {
@@ -99,7 +93,11 @@ impl<M: KeptMemory, K: KeyKind> Book<M, K> {
         if self.table.runner_at(i).stage != Stage::Idle {
             return Err(Refusal::Busy);
         }
-        let operation = Operation::try_from(operation)?;
-        begin_with::<K>(&mut self.table, i, operation, key, value)
+        let asked = Asked {
+            operation: Operation::try_from(operation)?,
+            key,
+            value,
+        };
+        begin_with::<K>(&mut self.table, i, asked)
     }
 }

@@ -18,7 +18,7 @@ pub(crate) fn runner_index(table: &Table, runner: u32) -> Result<usize, Refusal>
     if !table.opened {
         return Err(Refusal::Closed);
     }
-    if runner < 1 || runner > u32::from(table.count) {
+    if !(1..=u32::from(table.count)).contains(&runner) {
         return Err(Refusal::NoSuchRunner);
     }
     Ok(runner as usize - 1)

@@ -64,7 +64,7 @@ fn kind_of(text: &[u8]) -> Option<Kind>
     }
 }
 
-// An operation goes by its name or its number.
+// An operation goes by its name or its number. A number and no enum: a script may ask for one that is none.
 fn operation(text: &[u8]) -> Option<u32>
     ensures { result ≡ operation_read text.now }
 {

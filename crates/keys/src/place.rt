@@ -90,8 +90,8 @@ impl KeyKind for Place {
 }
 
 impl Place {
-    // Not `TryFrom`, here and for plates: a key is a plain word, and `u64::try_from` would not say of which kind.
     // The key of a place, which comes apart into its parts again.
+    // Not `TryFrom`, here and below: a key is a plain word, and `u64::try_from` would not say of which kind.
     #[tactic(auto, using(crate::specs::PlaceWords::made_of_good, crate::specs::PlaceWords::made_and_parted))]
     pub fn make(parts: PlaceParts) -> Result<u64, Refusal>
         ensures value { result ≡ place_made parts }

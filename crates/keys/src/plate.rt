@@ -22,6 +22,7 @@ pub struct PlateText {
     bytes: [u8; 7],
 }
 
+// One function a rule, as for places.
 fn is_length(n: usize) -> bool
     ensures { result ≡ length_good n }
 {
@@ -110,6 +111,7 @@ impl KeyKind for Plate {
 
 impl Plate {
     // The key of a plate, which comes apart into its bytes again.
+    // Not `TryFrom`, as for places.
     #[tactic(auto, using(crate::proofs::PlateBytes::written_eight, crate::proofs::PlateTrips::made_of_good, crate::proofs::PlateTrips::made_and_parted))]
     pub fn make(text: &[u8]) -> Result<u64, Refusal>
         ensures value { result ≡ plate_made text.now }

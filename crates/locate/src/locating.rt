@@ -41,34 +41,28 @@ fn enter_full_page<M: KeptMemory, K: KeyKind>(
 }
 
 // An enter into a page that is not splitting.
-fn enter_page<M: KeptMemory, K: KeyKind>(
-    view: &View<M, K>,
-    index: usize,
-    key: u64,
-    page: u8,
-) -> Move
-    ensures { result ≡ entering_page K.before (M.words view.now.memory.now) view.now.table.now index page (found (M.words view.now.memory.now) (page_at view.now.table.now page).committed page key) }
+fn enter_page<M: KeptMemory, K: KeyKind>(view: &View<M, K>, turn: Turn, page: u8) -> Move
+    ensures { result ≡ entering_page K.before (M.words view.now.memory.now) view.now.table.now turn.index page (found (M.words view.now.memory.now) (page_at view.now.table.now page).committed page turn.runner.key) }
 {
-    match view.committed(page).find(key) {
-        Some(_) => Move::answers(index, Answer::AlreadyThere),
-        None if view.table.page_at(page).taken < 8 => take_slot(view.table, index, page),
-        None => enter_full_page(view, index, page, view.table.split),
+    match view.committed(page).find(turn.runner.key) {
+        Some(_) => Move::answers(turn.index, Answer::AlreadyThere),
+        None if view.table.page_at(page).taken < 8 => take_slot(view.table, turn.index, page),
+        None => enter_full_page(view, turn.index, page, view.table.split),
     }
 }
 
 fn enter_standing<M: KeptMemory, K: KeyKind>(
     view: &View<M, K>,
-    index: usize,
-    key: u64,
+    turn: Turn,
     page: u8,
     standing: Standing,
 ) -> Move
-    ensures { result ≡ entering K.before (M.words view.now.memory.now) view.now.table.now index key page standing }
+    ensures { result ≡ entering K.before (M.words view.now.memory.now) view.now.table.now turn.index turn.runner.key page standing }
 {
     match standing {
-        Standing::Whole | Standing::Left => enter_page(view, index, key, page),
+        Standing::Whole | Standing::Left => enter_page(view, turn, page),
         Standing::InCopy | Standing::InSync(_) | Standing::InLink(_) => Move::turns(
-            index,
+            turn.index,
             Stage::Helping,
         ),
     }
@@ -76,17 +70,16 @@ fn enter_standing<M: KeptMemory, K: KeyKind>(
 
 fn locate_in<M: KeptMemory, K: KeyKind>(
     view: &View<M, K>,
-    index: usize,
-    key: u64,
+    turn: Turn,
     page: u8,
     operation: Operation,
 ) -> Move
-    ensures { result ≡ locating_page K.before (M.words view.now.memory.now) view.now.table.now index key page operation }
+    ensures { result ≡ locating_page K.before (M.words view.now.memory.now) view.now.table.now turn.index turn.runner.key page operation }
 {
     match operation {
-        Operation::Enter => enter_standing(view, index, key, page, view.table.standing(page)),
+        Operation::Enter => enter_standing(view, turn, page, view.table.standing(page)),
         Operation::Change | Operation::Remove | Operation::Look => Move::turns(
-            index,
+            turn.index,
             Stage::Acting { page },
         ),
     }
@@ -96,7 +89,6 @@ fn locate_in<M: KeptMemory, K: KeyKind>(
 pub fn locate<M: KeptMemory, K: KeyKind>(view: &View<M, K>, turn: Turn) -> Move
     ensures { result ≡ locating K.before (M.words view.now.memory.now) view.now.table.now turn.index turn.runner }
 {
-    let key = turn.runner.key;
-    let page = view.covering_page(key);
-    locate_in(view, turn.index, key, page, turn.runner.operation)
+    let page = view.covering_page(turn.runner.key);
+    locate_in(view, turn, page, turn.runner.operation)
 }

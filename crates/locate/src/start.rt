@@ -18,7 +18,7 @@ fn count_keys(keys: &[u64]) -> usize
 }
 
 // How many keys come before the key.
-// Ranks are counted in loops over a page's keys: this project's form for the split key.
+// Ranks are counted in loops over a page's keys, here and below: this project's form for the split key.
 #[tactic(auto, using(protocol::proofs::Ranks::rank_more, protocol::proofs::Ranks::rank_all))]
 fn rank_of<K: KeyKind>(keys: &[u64], key: u64) -> usize
     ensures { result ≡ rank K.before key keys.now }
@@ -32,7 +32,7 @@ fn rank_of<K: KeyKind>(keys: &[u64], key: u64) -> usize
     n
 }
 
-// The key with just half of the keys before it.
+// The key with just half of the keys before it. A loop over the keys with their index, as above.
 #[tactic(auto, using(protocol::proofs::Ranks::ranked_more, protocol::proofs::Ranks::ranked_all))]
 fn parting_key<K: KeyKind>(keys: &[u64]) -> u64
     ensures { result ≡ split_key K.before keys.now }

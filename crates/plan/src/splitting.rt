@@ -1,6 +1,8 @@
 // The steps of a split: copy, sync, link.
 ghost use Rattle.std.specs.Prelude.{◌≡◌};
-ghost use Rattle.protocol.specs.Fields.{page_at};
+ghost use Rattle.protocol.specs.Fields.{page_at, with_progress};
+ghost use Rattle.protocol.specs.Moves.{splits};
+ghost use Rattle.protocol.specs.declared.moves.TableNext.TheVariants.{Go};
 ghost use Rattle.protocol.specs.Search.{new_page, live_from, standing_from, preceding, first_pending};
 ghost use Rattle.protocol.specs.Split.{steps, stores, clearing_at, clearing_after, old_next, left_next, copying, new_count, copied, syncing_slot, syncing, link_at, linking, split_step_at, split_step};
 
@@ -23,20 +25,26 @@ pub(crate) struct SplitStep<'v, 'a, M, K> {
 }
 
 impl<'v, 'a, M: KeptMemory, K: KeyKind> SplitStep<'v, 'a, M, K> {
+    // The split makes an access and goes on.
+    fn go(&self, access: Access, progress: Progress) -> Move
+        ensures { result ≡ splits self.now.runner access (Go (with_progress self.now.split progress)) }
+    {
+        let next = TableNext::Go(self.split.with_progress(progress));
+        Move::splits(self.runner, access, next)
+    }
+
     // The split goes on with no access.
     fn step(&self, progress: Progress) -> Move
         ensures { result ≡ steps self.now.runner self.now.split progress }
     {
-        let next = TableNext::Go(self.split.with_progress(progress));
-        Move::splits(self.runner, Access::Nothing, next)
+        self.go(Access::Nothing, progress)
     }
 
     // The split stores a word and goes on.
     fn store(&self, at: usize, word: u64, progress: Progress) -> Move
         ensures { result ≡ stores self.now.runner at «word» self.now.split progress }
     {
-        let next = TableNext::Go(self.split.with_progress(progress));
-        Move::splits(self.runner, Access::Store(at, word), next)
+        self.go(Access::Store(at, word), progress)
     }
 
     fn clear_at(&self, done: u8) -> usize
@@ -186,6 +194,7 @@ impl<'v, 'a, M: KeptMemory, K: KeyKind> SplitStep<'v, 'a, M, K> {
         }
     }
 
+    // A match on the progress is this project's form for a step of a split.
     fn plan_at(&self, progress: Progress) -> Move
         ensures { result ≡ split_step_at K.before (M.words self.now.view.now.memory.now) self.now.view.now.table.now self.now.runner self.now.split progress }
     {
@@ -238,10 +247,8 @@ impl<'v, 'a, M: KeptMemory, K: KeyKind> SplitStep<'v, 'a, M, K> {
             Progress::SyncingSwap { slot, old, word } => {
                 let copy = split.copy_at(slot);
                 let access = Access::Swap(value_at(copy.page, copy.slot), word, cleared(old));
-                let next = split.with_progress(Progress::Syncing {
-                    slot: slot_after(slot),
-                });
-                Move::splits(self.runner, access, TableNext::Go(next))
+                let slot = slot_after(slot);
+                self.go(access, Progress::Syncing { slot })
             }
             Progress::Linking => {
                 let link = self.store(self.link_word(), u64::from(split.left), Progress::Finishing);

@@ -19,14 +19,15 @@ impl Stage {
             Stage::Idle | Stage::Locating | Stage::Helping | Stage::Answered { .. } => None,
             Stage::WritingValue { page, .. }
             | Stage::WritingKey { page, .. }
-            | Stage::Committing { page, .. } => Some(page),
-            Stage::Acting { page }
+            | Stage::Committing { page, .. }
+            | Stage::Acting { page }
             | Stage::Comparing { page, .. }
-            | Stage::ComparingSwap { page, .. } => Some(page),
-            Stage::PendingNew { page, .. }
+            | Stage::ComparingSwap { page, .. }
+            | Stage::PendingNew { page, .. }
             | Stage::PendingOld { page, .. }
-            | Stage::PendingSwap { page, .. } => Some(page),
-            Stage::PendingRemove { page } | Stage::Reading { page } => Some(page),
+            | Stage::PendingSwap { page, .. }
+            | Stage::PendingRemove { page }
+            | Stage::Reading { page } => Some(page),
         }
     }
 
@@ -35,8 +36,10 @@ impl Stage {
         ensures { result ≡ pending_on self old }
     {
         match self {
-            Stage::PendingNew { page, .. } | Stage::PendingOld { page, .. } => page == old,
-            Stage::PendingSwap { page, .. } | Stage::PendingRemove { page } => page == old,
+            Stage::PendingNew { page, .. }
+            | Stage::PendingOld { page, .. }
+            | Stage::PendingSwap { page, .. }
+            | Stage::PendingRemove { page } => page == old,
             _ => false,
         }
     }

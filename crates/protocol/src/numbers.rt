@@ -1,6 +1,7 @@
 // What a runner is asked to do, what it is answered, and why a call is sent back: each with its number.
 ghost use Rattle.std.specs.Prelude.{◌≡◌, ◌++◌, Some, codes, decimal};
 ghost use Rattle.std.specs.Option.{ok_or};
+ghost use Rattle.protocol.specs.Calls.{draws};
 ghost use Rattle.protocol.specs.Numbers.{operation_number, operation_of, operation_name, answer_number, refusal_number};
 ghost use Rattle.protocol.specs.declared.numbers.Refusal.TheVariants.{NoSuchOperation};
 
@@ -20,6 +21,13 @@ impl Operation {
         ensures { result ≡ operation_number self }
     {
         self as u8
+    }
+
+    // Enter and change carry a value, and draw a change number.
+    pub fn draws(self) -> bool
+        ensures { result ≡ draws self }
+    {
+        matches!(self, Operation::Enter | Operation::Change)
     }
 }
 
@@ -110,8 +118,7 @@ impl fmt::Display for Refusal {
     ghost output = { λ r. Some (codes "refused " ++ decimal (refusal_number r)) };
 
     fn fmt<W: fmt::Write>(&self, f: &mut fmt::Formatter<W>) -> fmt::Result {
-        let number = self.number();
-        write!(f, "refused {number}")
+        write!(f, "refused {}", self.number())
     }
 }
 

@@ -3,6 +3,7 @@ use crate::numbers::{Answer, Operation};
 
 // Where a runner's operation stands. `page` is the page that the runner holds, `slot` a slot of it, `new` the slot of the key's new page, `word` a word
 // remembered from the new slot and `old` one remembered from the old slot.
+// Page and slot stand apart, here and in parameters: rules and definitions speak of each alone, and as one value each match would take it apart again.
 #[derive(Clone, Copy, PartialEq, Eq, Debug)]
 pub enum Stage {
     Idle,
@@ -71,6 +72,7 @@ pub enum Activity {
 }
 
 // What a runner is doing: `word` is the value word that an enter or a change brings, with its mark clear.
+// The word is 0 where none is brought, and an idle runner has all fields: the laws of change numbers speak of every runner's word.
 #[derive(Clone, Copy, PartialEq, Eq, Debug)]
 pub struct Runner {
     pub operation: Operation,
@@ -131,9 +133,9 @@ pub enum Progress {
     Finishing,
 }
 
-// `right` is 0 and no Option: the three steps that only a right page has would each have to say what they do without one.
 // A split of page `old` into `left` and `right` (0 where one new page is enough) at `key`. `copies` says where each old slot went, and
 // `lefts` and `rights` how many slots the new pages have so far.
+// `right` is 0 and no Option: the three steps that only a right page has would each have to say what they do without one.
 #[derive(Clone, Copy, PartialEq, Eq, Debug)]
 pub struct Split {
     pub old: u8,
@@ -163,7 +165,8 @@ pub enum Standing {
 
 // `opened` says whether a book is open, `count` for how many runners. Row p of `pages` is page p's, row 0 nobody's. The list begins
 // with page `first`. New pages are sought from page `round` on; `last` is the change number drawn last.
-// Memory is fixed: the list is kept by links in the array. A closed book has a table too: as Option<Table> each call's definition and each law would have to say what holds of None.
+// Memory is fixed: the list is kept by links in the array, and `count` says how many of the eight runners there are.
+// A closed book has a table too: as Option<Table> each call's definition and each law would have to say what holds of None.
 #[derive(Clone, Copy, PartialEq, Eq, Debug)]
 pub struct Table {
     pub opened: bool,

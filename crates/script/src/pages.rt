@@ -1,7 +1,6 @@
 // The pages of a table's list, in its order.
 ghost use Rattle.std.specs.Iterator.{at_most};
 
-use protocol::fields;
 use protocol::table::Table;
 
 const MOST_PAGES: u8 = 64;

@@ -2,9 +2,7 @@
 use crate::key_text::{KeyText, KeyWord, key_word};
 use crate::pages::Pages;
 use crate::stages::{ProgressText, StageText};
-use protocol::numbers::Operation;
 use protocol::table::{Activity, PageRow, Runner, Split, Table};
-use protocol::{fields, rows};
 use std::fmt;
 use std::marker::PhantomData;
 use values::value_word::value_of;
@@ -56,9 +54,9 @@ struct RunnerText<P> {
 impl<P: fmt::Display> fmt::Display for RunnerText<P> {
     fn fmt<W: fmt::Write>(&self, f: &mut fmt::Formatter<W>) -> fmt::Result {
         let runner = self.runner;
-        if matches!(runner.stage.activity(), Activity::Open) {
+        if runner.stage.activity() == Activity::Open {
             write!(f, "{} {} ", runner.operation, self.key)?;
-            if matches!(runner.operation, Operation::Enter | Operation::Change) {
+            if runner.operation.draws() {
                 write!(f, "{} ", value_of(runner.word))?;
             }
         }

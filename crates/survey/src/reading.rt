@@ -98,12 +98,12 @@ fn are_lows_right<M: KeptMemory, K: KeyKind>(view: &View<M, K>) -> bool
 }
 
 // The low of the page after, 0 if there is none.
-fn upper_low<M: KeptMemory>(memory: &M, table: &Table, page: u8) -> u64
-    ensures { result ≡ upper (M.words memory.now) table.now page }
+fn upper_low<M: KeptMemory, K: KeyKind>(view: &View<M, K>, page: u8) -> u64
+    ensures { result ≡ upper (M.words view.now.memory.now) view.now.table.now page }
 {
-    match table.page_at(page).next {
+    match view.table.page_at(page).next {
         0 => 0,
-        next => word(memory, low_at(next)),
+        next => word(view.memory, low_at(next)),
     }
 }
 
@@ -200,7 +200,7 @@ fn survey_page<M: KeptMemory, K: KeyKind>(
 {
     let bounds = Bounds {
         low: word(memory, low_at(page)),
-        high: upper_low(memory, &table, page),
+        high: upper_low(&View::<M, K>::new(memory, &table), page),
     };
     let tally = survey_slots::<M, K>(memory, bounds, page, table.last)?;
     Ok(with_page_tally(table, page, tally))
@@ -211,7 +211,7 @@ fn survey_page<M: KeptMemory, K: KeyKind>(
 fn survey_pages<M: KeptMemory, K: KeyKind>(memory: &M, table: Table) -> Result<Table, Refusal>
     ensures { result ≡ pages_from K.key K.before (M.words memory.now) 64 (Ok table) table.first }
 {
-    // The index only bounds the walk, over the list of a table that changes under way.
+    // The index only bounds the walk. An iterator over the list would keep hold of the table, whose rows change under way.
     let mut found = table;
     let mut page = table.first;
     for _i in 0..64u8 {
