@@ -68,6 +68,7 @@ impl<'a, M: KeptMemory> Slots<'a, M> {
         (from..8).find(|slot| self.is_live(*slot))
     }
 
+    // 0 and no Option: key word 0 is no key in the row, and ranks are counted over whole words.
     fn key(&self, slot: u8) -> u64
         ensures { result ≡ live_key (M.words self.now.memory.now) self.now.bits self.now.page slot }
     {
