@@ -29,13 +29,13 @@ IsFirst p a b r = MatchOption r ((k : ℕ) → a ≤ k → k < b → p k ≡ fal
 later : (p : ℕ → Bool) (a i : ℕ) → p a ≡ false → p i ≡ true → a ≤ i → a + 1 ≤ i
 later p a i f t l = let ne : a ≢ i = λ e. true≢false (sym t ∙ ap p (sym e) ∙ f) in omega (arith, ne)
 
-first_at : (p : ℕ → Bool) (n a b : ℕ) (r : Option ℕ) (c : Bool)
+first_step : (p : ℕ → Bool) (n a b : ℕ) (r : Option ℕ) (c : Bool)
     → p a ≡ c → b - a ≡ suc n → IsFirst p a b r → (IsFirst p (a + 1) b r → r ≡ first_from p (a + 1) n) → r ≡ cond c (Some a) (first_from p (a + 1) n)
-first_at p n a b None true q e h go = absurd (true≢false (sym q ∙ h a (omega arith) (omega (arith, e))))
-first_at p n a b None false q e h go = go (λ k l m. h k (omega (arith, l)) m)
-first_at p n a b (Some i) true q e h go =
+first_step p n a b None true q e h go = absurd (true≢false (sym q ∙ h a (omega arith) (omega (arith, e))))
+first_step p n a b None false q e h go = go (λ k l m. h k (omega (arith, l)) m)
+first_step p n a b (Some i) true q e h go =
     let past : a < i → ⊥ = λ l. true≢false (sym q ∙ h.3 a (omega arith) l) in let same : i ≡ a = omega (arith, past, h.0) in ap Some same
-first_at p n a b (Some i) false q e h go = go (later p a i q (h.2) (h.0), h.1, h.2, λ k l m. h.3 k (omega (arith, l)) m)
+first_step p n a b (Some i) false q e h go = go (later p a i q (h.2) (h.0), h.1, h.2, λ k l m. h.3 k (omega (arith, l)) m)
 
 -- It is then the first number from a on that passes.
 pub first_is : (p : ℕ → Bool) (a b : ℕ) (r : Option ℕ) → IsFirst p a b r → r ≡ first_from p a (b - a)
@@ -45,7 +45,7 @@ first_is p a b r h = by (b - a) a r refl h
     by : (n a : ℕ) (r : Option ℕ) → b - a ≡ n → IsFirst p a b r → r ≡ first_from p a n
     by zero a None e h = refl
     by zero a (Some i) e h = absurd (omega (arith, e, h.0, h.1))
-    by (suc n) a r e h = first_at p n a b r (p a) refl e h (by n (a + 1) r (omega (arith, e)))
+    by (suc n) a r e h = first_step p n a b r (p a) refl e h (by n (a + 1) r (omega (arith, e)))
 
 -- What `find` gives over a range.
 pub found : {F : Type 0} {g : Mut F (Bor ℕ × Unit {0}) Bool} (s u : Range ℕ) (f : F) (r : Option ℕ) (p : ℕ → Bool)
@@ -58,19 +58,19 @@ found s u f r p ran pass fail = first_is p s.start s.end r (first_from_Range s u
 abbrev AnyOf : (ℕ → Bool) → ℕ → ℕ → Bool → Type 0
 AnyOf p a n r = MatchBool r ((k : ℕ) × (k < n) × (p (a + k) ≡ true)) ((k : ℕ) → k < n → p (a + k) ≡ false)
 
-any_at : (p : ℕ → Bool) (a n : ℕ) (r c : Bool)
+any_step : (p : ℕ → Bool) (a n : ℕ) (r c : Bool)
     → p a ≡ c → AnyOf p a (suc n) r → (AnyOf p (a + 1) n r → r ≡ is_some (first_from p (a + 1) n)) → r ≡ is_some (cond c (Some a) (first_from p (a + 1) n))
-any_at p a n true true q h go = refl
-any_at p a n true false q (zero, l, t) go = absurd (true≢false (sym t ∙ ap p (omega arith) ∙ q))
-any_at p a n true false q (suc k, l, t) go = go (k, omega (arith, l), ap p (omega arith) ∙ t)
-any_at p a n false true q h go = absurd (true≢false (sym q ∙ ap p (omega arith) ∙ h 0 (omega arith)))
-any_at p a n false false q h go = go (λ k l. ap p (omega arith) ∙ h (k + 1) (omega (arith, l)))
+any_step p a n true true q h go = refl
+any_step p a n true false q (zero, l, t) go = absurd (true≢false (sym t ∙ ap p (omega arith) ∙ q))
+any_step p a n true false q (suc k, l, t) go = go (k, omega (arith, l), ap p (omega arith) ∙ t)
+any_step p a n false true q h go = absurd (true≢false (sym q ∙ ap p (omega arith) ∙ h 0 (omega arith)))
+any_step p a n false false q h go = go (λ k l. ap p (omega arith) ∙ h (k + 1) (omega (arith, l)))
 
 any_is : (p : ℕ → Bool) (a n : ℕ) (r : Bool) → AnyOf p a n r → r ≡ is_some (first_from p a n)
 unfolding first_from
 any_is p a zero true h = absurd (omega (arith, h.1))
 any_is p a zero false h = refl
-any_is p a (suc n) r h = any_at p a n r (p a) refl h (any_is p (a + 1) n r)
+any_is p a (suc n) r h = any_step p a n r (p a) refl h (any_is p (a + 1) n r)
 
 -- What `any` gives over a range.
 pub any_found : {F : Type 0} {g : Mut F (ℕ × Unit {0}) Bool} (s u : Range ℕ) (f : F) (r : Bool) (p : ℕ → Bool)

@@ -17,7 +17,7 @@ use Rattle.protocol.specs.declared.moves.TableNext.TheVariants as rest
 use Rattle.protocol.specs.declared.moves.Move.{Move}
 use Rattle.protocol.specs.Layout.{word, key_at, page_count}
 use Rattle.protocol.specs.Fields.{runner_at, page_at, held, standing, committed, not_copied}
-use Rattle.protocol.specs.Search.{first_from, is_some, found, covering}
+use Rattle.protocol.specs.Search.{first_from, is_some, is_this, found, covering}
 use Rattle.protocol.specs.Moves.{turns, answers}
 
 -- The key of a committed slot, 0 for a slot that is not committed.
@@ -50,13 +50,8 @@ abbrev pub in_split : Option Split → ℕ → Bool
 in_split None p = false
 in_split (Some s) p = s.old == p || s.left == p || s.right == p
 
--- Whether what a runner holds is page p.
-abbrev pub is_page : Option ℕ → ℕ → Bool
-is_page None p = false
-is_page (Some q) p = q == p
-
 abbrev pub holds_page : Table → ℕ → ℕ → Bool
-holds_page t p i = is_page (held (runner_at t i).stage) p
+holds_page t p i = is_this (held (runner_at t i).stage) p
 
 -- A page is free when it is not in the list, not in the split and not held.
 abbrev pub free : Table → ℕ → Bool

@@ -7,7 +7,7 @@ use Rattle.protocol.specs.declared.table.Tally.{Tally}
 use Rattle.protocol.specs.Layout.{word, next_at, low_at, key_at, value_at, page_count, right_length}
 use Rattle.values.specs.ValueWord.{number_of}
 use Rattle.protocol.specs.Fields.{page_at, with_page}
-use Rattle.protocol.specs.Search.{found}
+use Rattle.protocol.specs.Search.{is_this, found}
 use Rattle.protocol.specs.Make.{bare_table}
 
 -- The row has the right length, and the runners are 1 to 8.
@@ -63,15 +63,10 @@ upper ws t p = cond ((page_at t p).next == 0) 0 (word ws (low_at (page_at t p).n
 abbrev pub in_range : (ℕ → ℕ → Bool) → ℕ → ℕ → ℕ → Bool
 in_range before low high k = (low == 0 || not (before k low)) && (high == 0 || before k high)
 
--- Whether no earlier slot of the page holds the slot's key.
-abbrev pub first_at : Option ℕ → ℕ → Bool
-first_at None s = false
-first_at (Some i) s = i == s
-
 -- A nonzero key word is a key, in its page's range, and not earlier in the page.
 abbrev pub placed : (ℕ → Bool) → (ℕ → ℕ → Bool) → List ℕ → ℕ → ℕ → ℕ → ℕ → Bool
 placed key before ws low high p s =
-    key (word ws (key_at p s)) && in_range before low high (word ws (key_at p s)) && first_at (found ws 255 p (word ws (key_at p s))) s
+    key (word ws (key_at p s)) && in_range before low high (word ws (key_at p s)) && is_this (found ws 255 p (word ws (key_at p s))) s
 
 -- A slot with a key is committed, the taken count is one above it, and the largest change number is taken over.
 abbrev pub tallied : Tally → ℕ → ℕ → Tally

@@ -1,5 +1,5 @@
 -- What a step reads before it acts: key words, low words and the table.
-use Rattle.std.specs.Prelude.{ℕ, zero, suc, ◌+◌, ◌-◌, Bool, cond, not, ◌&&◌, ◌||◌, List, Some, None, Option, ◌==◌}
+use Rattle.std.specs.Prelude.{ℕ, zero, suc, ◌+◌, ◌-◌, Bool, false, cond, not, ◌&&◌, ◌||◌, List, Some, None, Option, ◌==◌}
 pub use Rattle.std.specs.Option.{is_some}
 use Rattle.protocol.specs.declared.table.Split.{Split}
 use Rattle.protocol.specs.declared.table.Table.{Table}
@@ -10,6 +10,11 @@ use Rattle.protocol.specs.Fields.{page_at, runner_at, pending_on, committed, cop
 unfoldable pub first_from : (ℕ → Bool) → ℕ → ℕ → Option ℕ
 first_from f i zero = None
 first_from f i (suc n) = cond (f i) (Some i) (first_from f (i + 1) n)
+
+-- Whether there is a number, and it is this one.
+abbrev pub is_this : Option ℕ → ℕ → Bool
+is_this None n = false
+is_this (Some m) n = m == n
 
 -- Whether a slot, if committed, holds the key.
 abbrev pub holds : List ℕ → ℕ → ℕ → ℕ → ℕ → Bool
