@@ -1,6 +1,7 @@
 -- Places as words: their order is that of a number, and they come apart into what they were made of.
-use Rattle.std.specs.Prelude.{◌≡◌, ℕ, ◌+◌, ◌*◌, ◌/◌, ◌%◌, ◌^◌, ◌<◌, true, ℤ, Ok, bit_or, nat_lt, refl}
-use Rattle.std.proofs.Common.{ap, ◌∙◌, arith}
+use Rattle.std.specs.Prelude.{◌≡◌, ℕ, ◌+◌, ◌*◌, ◌/◌, ◌%◌, ◌^◌, ◌<◌, true, ℤ, Ok, FitsSigned, bit_or, int_lt, nat_lt, refl}
+use Rattle.std.proofs.Common.{ap, ◌∙◌, arith, to_z, of_z}
+use Rattle.std.specs.Int.{w8}
 use Rattle.std.proofs.lemmas.Nat.{or_shifted}
 use Rattle.std.proofs.lemmas.Int.{ints}
 use Rattle.std.proofs.lemmas.Bool.Decides.{nat_tests}
@@ -12,6 +13,9 @@ use Rattle.keys.specs.Ranks.{lawful_by_rank}
 -- the byte of a level, turned by 128 so that it grows with the level
 abbrev turned : ℕ → ℕ
 turned b = (b + 128) % 256
+
+levels_turned : (x y : ℕ) → x < 256 → y < 256 → int_lt (byte_level x) (byte_level y) ≡ nat_lt (turned x) (turned y)
+levels_turned x y hx hy = grind (arith, nat_tests)
 
 abbrev rank : ℕ → ℕ
 rank w = turned (w / 16777216 % 256) * 16777216 + w % 16777216
@@ -29,7 +33,17 @@ one_rank a b ka kb e = omega (arith, key_small a ka, key_small b kb)
 pub places_lawful : Lawful place_key place_before
 places_lawful = lawful_by_rank place_key place_before rank refl by_rank one_rank
 
--- a good level comes back from its byte
+-- a byte read as a signed number is the level that it stands for
+pub signed_byte : (b : ℕ) → b < 256 → to_z w8 b ≡ byte_level b
+signed_byte b h = grind (arith, nat_tests)
+
+-- a good level fits a byte, and comes back from it
+pub level_fits : (l : ℤ) → level_good l ≡ true → FitsSigned w8 l
+level_fits l h = grind (arith, ints)
+
+pub level_bits : (l : ℤ) → level_good l ≡ true → of_z w8 l ≡ level_byte l
+level_bits l h = grind (arith, ints)
+
 level_back : (l : ℤ) → level_good l ≡ true → byte_level (level_byte l) ≡ l
 level_back l h = grind (arith, ints)
 
@@ -37,10 +51,10 @@ level_back l h = grind (arith, ints)
 level_small : (l : ℤ) → level_byte l < 256
 level_small l = grind (arith, ints)
 
-zone_small : (z : ℕ) → zone_good z ≡ true → z < 256
+pub zone_small : (z : ℕ) → zone_good z ≡ true → z < 256
 zone_small z h = grind (arith, nat_tests)
 
-place_small : (p : ℕ) → place_good p ≡ true → p < 65536
+pub place_small : (p : ℕ) → place_good p ≡ true → p < 65536
 place_small p h = grind (arith, nat_tests)
 
 pub joined_bits : (u z p : ℕ) → u < 256 → z < 256 → p < 65536

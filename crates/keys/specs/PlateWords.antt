@@ -1,7 +1,8 @@
 -- A text comes back from its word, and a word from its text.
-use Rattle.std.specs.Prelude.{◌≡◌, ℕ, zero, suc, ◌+◌, ◌*◌, ◌/◌, ◌%◌, ◌^◌, ◌<◌, ◌≤◌, true, false, List, [], ◌∷◌, length, ◌==◌, nat_eq, refl}
+use Rattle.std.specs.Prelude.{◌≡◌, ℕ, zero, suc, ◌+◌, ◌*◌, ◌/◌, ◌%◌, ◌^◌, ◌<◌, ◌≤◌, true, false, ◌&&◌, List, [], ◌∷◌, length, drop, ◌==◌, nat_eq, slice_index, refl}
 use Rattle.std.proofs.Common.{⊎_elim, sym, ap, ◌∙◌, pow-suc, mul-le-mul_right, arith}
 use Rattle.std.proofs.lemmas.Nat.{mul-add-lt, div-mul-add, mod-mul-add, div-add-mod', mod_below}
+use Rattle.std.proofs.lemmas.List.{at_drop_more}
 use Rattle.std.proofs.lemmas.Bool.{and_parts, eq-eqb, ne_eqb, cond-true, cond-false, cases_lt}
 use Rattle.std.proofs.lemmas.Bool.Decides.{nat_tests}
 use Rattle.keys.specs.PlateWord.{byte_good, bytes_good, word_of, text_of}
@@ -39,6 +40,11 @@ text_back (suc n) (b ∷ bs) l h =
     cond-false (b * k + r == 0) [] ((b * k + r) / k ∷ text_of n ((b * k + r) % k)) some
     ∙ (λ i. div-mul-add b k r s i ∷ text_of n (mod-mul-add b k r s i))
     ∙ ap (λ t. b ∷ t) (text_back n bs (omega arith) g.1)
+
+-- the bytes from i on are good if byte i is and those behind it are
+pub bytes_more : (bs : List ℕ) (i : ℕ) → i < length bs → bytes_good (drop i bs) ≡ (byte_good (slice_index bs i) && bytes_good (drop (i + 1) bs))
+unfolding bytes_good
+bytes_more bs i h = at_drop_more bytes_good bs i 0 h
 
 -- the text of 0, and of a word above 0
 pub text_none : (n w : ℕ) → w ≡ 0 → text_of n w ≡ []
