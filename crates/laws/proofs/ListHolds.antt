@@ -1,5 +1,6 @@
 -- What a move must bring so that the page list stays well: a runner comes to hold no new page of the split, and the split's pages stay apart.
-use Rattle.std.proofs.Common.{◌≡◌, ℕ, true, not, ◌&&◌, ◌||◌, ltb, ◌⊎◌, Some, None, Option, sym, refl, ap, ◌∙◌, inr, ⊎_elim}
+use Rattle.std.proofs.Common.{◌≡◌, ℕ, true, not, ◌&&◌, ◌||◌, ltb, ◌⊎◌, Some, None, Option, sym, refl, ap, ◌∙◌, inl, inr, ⊎_elim}
+use Rattle.std.specs.Option.{unwrap_or}
 use Rattle.std.proofs.lemmas.Bool.{cond_both, both_ways}
 use Rattle.protocol.specs.declared.numbers.Answer.TheVariants.{Done}
 use Rattle.protocol.specs.declared.table.Stage.{Stage}
@@ -26,15 +27,19 @@ use Rattle.laws.proofs.Links.{links_same}
 use Rattle.laws.proofs.ListFinish.{finished_links}
 use Rattle.laws.proofs.Tables.{page_with, runner_with}
 
--- A runner that held h may come to hold no page, a listed one, or what it held.
+-- A runner that held h may come to hold no page (page 0 is none), a listed one, or what it held.
 
 abbrev pub Hold : Table → Option ℕ → Option ℕ → Type 0
 Hold t h None = Unit {0}
-Hold t h (Some p) = (listed t p ≡ true) ⊎ (Some p ≡ h)
+Hold t h (Some p) = (p ≡ 0) ⊎ ((listed t p ≡ true) ⊎ (Some p ≡ h))
 
 pub hold_same : (t : Table) (h : Option ℕ) → Hold t h h
 hold_same t None = tt
-hold_same t (Some p) = inr refl
+hold_same t (Some p) = inr (inr refl)
+
+pub hold_none : (t : Table) (h o : Option ℕ) → unwrap_or o 0 ≡ 0 → Hold t h o
+hold_none t h None e = tt
+hold_none t h (Some p) e = inl e
 
 abbrev pub OwnHolds : Table → Option ℕ → RunnerNext → Type 0
 OwnHolds t h own.Stay = Unit {0}
@@ -86,7 +91,7 @@ unused_runner t i x p h U =
       unheld = λ j.
           ⊎_elim
           (λ s. rw s (U.unheld j))
-          (λ s. rw s.1 (λ e. ⊎_elim (λ l. both_ways (listed t p) U.off l) (λ k. U.unheld i (sym k)) (rw e at h)))
+          (λ s. rw s.1 (λ e. ⊎_elim U.real (⊎_elim (λ l. both_ways (listed t p) U.off l) (λ k. U.unheld i (sym k))) (rw e at h)))
           (runner_with t i x j);
     }
 

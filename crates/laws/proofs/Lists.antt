@@ -1,5 +1,6 @@
 -- Every call keeps the page list of an open book, and the pages of a split apart from it.
-use Rattle.std.proofs.Common.{◌≡◌, ℕ, ◌-◌, true, false, None, Ok, Err, Result, sym, refl, ◌∙◌}
+use Rattle.std.proofs.Common.{◌≡◌, ℕ, ◌-◌, true, false, Ok, Err, Result, sym, refl, ◌∙◌}
+use Rattle.std.specs.Option.{unwrap_or}
 use Rattle.std.proofs.lemmas.Bool.{cond_both, both_ways}
 use Rattle.protocol.specs.declared.numbers.Operation.{Operation}
 use Rattle.protocol.specs.declared.numbers.Refusal.{Refusal}
@@ -15,17 +16,17 @@ use Rattle.laws.specs.Lists.{WellListed, ListedIfOpen, CallsKeepLists}
 use Rattle.laws.proofs.Arrays.{runner_whole, page_whole, bare_whole, begun_whole, tally_whole, settled_whole}
 use Rattle.laws.proofs.Calls.{FoundSo, begun_keeps, collected_keeps, stepped_keeps, made_keeps, chained_keeps, rebuilt_keeps}
 use Rattle.laws.proofs.Fitting.{none_is_some}
-use Rattle.laws.proofs.ListHolds.{apart_runner, apart_as, move_listed}
+use Rattle.laws.proofs.ListHolds.{hold_none, apart_runner, apart_as, move_listed}
 use Rattle.laws.proofs.ListMoves.{planned_holds}
 use Rattle.laws.proofs.ListStart.{covering_listed}
 use Rattle.laws.proofs.ListRebuild.{JustListed, chained_lists, tally_lists, made_lists}
 
 -- a runner that lets go changes no list
 
-let_go : (t : Table) (i : ℕ) (x : Runner) → held x.stage ≡ None → WellListed t → WellListed (with_runner t i x)
-let_go t i x e G = record { place = G.place; prev = G.prev; links = G.links; apart = λ s d. apart_runner t i x s (rw e tt) (G.apart s d) }
+let_go : (t : Table) (i : ℕ) (x : Runner) → unwrap_or (held x.stage) 0 ≡ 0 → WellListed t → WellListed (with_runner t i x)
+let_go t i x e G = record { place = G.place; prev = G.prev; links = G.links; apart = λ s d. apart_runner t i x s (hold_none t (held (runner_at t i).stage) (held x.stage) e) (G.apart s d) }
 
-started_listed : (t : Table) (i : ℕ) (x : Runner) (l : ℕ) → held x.stage ≡ None → WellListed t → WellListed (started t i x l)
+started_listed : (t : Table) (i : ℕ) (x : Runner) (l : ℕ) → unwrap_or (held x.stage) 0 ≡ 0 → WellListed t → WellListed (started t i x l)
 started_listed t i x l e G =
     let H = let_go t i x e G in
     record { place = G.place; prev = G.prev; links = G.links; apart = λ s d. apart_as (with_runner t i x) (started t i x l) s (λ p. refl) (λ j. refl) (H.apart s d) }

@@ -1,5 +1,6 @@
 -- Locating: where a key belongs, and how a split is started.
 use Rattle.std.specs.List.{range_with_len}
+use Rattle.std.specs.Option.{unwrap_or}
 use Rattle.std.specs.Prelude.{ℕ, ◌+◌, ◌-◌, ◌/◌, ◌%◌, Bool, false, cond, not, ◌&&◌, ◌||◌, List, [], ◌∷◌, count_by, map, replicate, Some, None, Option, ◌==◌, nat_le, nat_lt}
 use Rattle.protocol.specs.declared.numbers.Operation.{Operation}
 use Rattle.protocol.specs.declared.numbers.Operation.TheVariants.{Enter, Change, Remove, Look}
@@ -17,7 +18,7 @@ use Rattle.protocol.specs.declared.moves.TableNext.TheVariants as rest
 use Rattle.protocol.specs.declared.moves.Move.{Move}
 use Rattle.protocol.specs.Layout.{word, key_at, page_count}
 use Rattle.protocol.specs.Fields.{runner_at, page_at, held, standing, committed, not_copied}
-use Rattle.protocol.specs.Search.{first_from, is_some, is_this, found, covering}
+use Rattle.protocol.specs.Search.{first_from, is_some, found, covering}
 use Rattle.protocol.specs.Moves.{turns, answers}
 
 -- The key of a committed slot, 0 for a slot that is not committed.
@@ -50,8 +51,9 @@ abbrev pub in_split : Option Split → ℕ → Bool
 in_split None p = false
 in_split (Some s) p = s.old == p || s.left == p || s.right == p
 
+-- Whether a runner holds the page. Page 0 is none: a runner that holds none is counted with it, so that it is not free.
 abbrev pub holds_page : Table → ℕ → ℕ → Bool
-holds_page t p i = is_this (held (runner_at t i).stage) p
+holds_page t p i = unwrap_or (held (runner_at t i).stage) 0 == p
 
 -- A page is free when it is not in the list, not in the split and not held.
 abbrev pub free : Table → ℕ → Bool

@@ -191,11 +191,11 @@ impl Table {
         row.listed && row.next == page
     }
 
-    // Whether a runner holds the page.
+    // Whether a runner holds the page. One that holds none counts for page 0, which is none.
     pub fn is_held(&self, page: u8) -> bool
         ensures { result ≡ is_some (first_from (holds_page self.now page) 0 8) }
     {
-        (0..8).any(|i| self.runner_at(i).stage.held() == Some(page))
+        (0..8).any(|i| self.runner_at(i).stage.held().unwrap_or(0) == page)
     }
 
     // How a page stands to the list and the split.
