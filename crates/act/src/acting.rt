@@ -2,13 +2,12 @@
 ghost use Rattle.std.specs.Prelude.{◌≡◌};
 ghost use Rattle.protocol.specs.Act.{acting_found, acting};
 
-use keys::kind::KeyKind;
 use memory::kept::KeptMemory;
 use protocol::layout::{key_at, value_at};
 use protocol::moves::{Access, Move, RunnerNext};
 use protocol::numbers::{Answer, Operation};
-use protocol::table::{Stage, Turn};
-use search::View;
+use protocol::table::{Stage, Table, Turn};
+use search::Slots;
 
 // An operation that is done, with nothing to tell.
 pub(crate) const DONE: Stage = Stage::Answered {
@@ -37,10 +36,10 @@ fn act_found(turn: Turn, page: u8, slot: u8, operation: Operation) -> Move
 }
 
 // With no split of the page, or in its copy phase.
-pub fn act<M: KeptMemory, K: KeyKind>(view: &View<M, K>, turn: Turn, page: u8) -> Move
-    ensures { result ≡ acting (M.words view.now.memory.now) view.now.table.now turn.index turn.runner page }
+pub fn act<M: KeptMemory>(memory: &M, table: &Table, turn: Turn, page: u8) -> Move
+    ensures { result ≡ acting (M.words memory.now) table.now turn.index turn.runner page }
 {
-    match view.committed(page).find(turn.runner.key) {
+    match Slots::committed(memory, table, page).find(turn.runner.key) {
         Some(slot) => act_found(turn, page, slot, turn.runner.operation),
         None => Move::answers(turn.index, Answer::NotThere),
     }

@@ -5,4 +5,4 @@ mod acting;
 mod splitting;
 
 pub use acting::act;
-pub use splitting::SplitTurn;
+pub use splitting::{SplitTurn, compare_swap};

@@ -3,7 +3,7 @@ ghost use Rattle.std.specs.Prelude.{◌≡◌};
 ghost use Rattle.protocol.specs.Plan.{helping, commits, planned_at, planned};
 
 use crate::splitting::SplitStep;
-use act::{SplitTurn, act};
+use act::{SplitTurn, act, compare_swap};
 use keys::kind::KeyKind;
 use locate::locate;
 use memory::kept::KeptMemory;
@@ -76,10 +76,15 @@ fn plan_at<M: KeptMemory, K: KeyKind>(
         (Stage::Committing { page, slot }, Standing::Whole) => commit(turn.index, page, slot),
         (Stage::WritingValue { .. } | Stage::WritingKey { .. } | Stage::Committing { .. }, _) =>
             Move::turns(turn.index, Stage::Helping),
-        (Stage::Acting { page }, Standing::Whole | Standing::InCopy) => act(view, turn, page),
+        (Stage::Acting { page }, Standing::Whole | Standing::InCopy) => act(
+            view.memory,
+            view.table,
+            turn,
+            page,
+        ),
         (Stage::Acting { page }, Standing::InSync(split)) => SplitTurn::of(
             view, split, turn,
-        ).act_in_sync(page),
+        ).act_in_sync(view.table, page),
         (Stage::Acting { .. }, Standing::InLink(split)) => SplitTurn::of(
             view, split, turn,
         ).act_in_link(),
@@ -101,7 +106,7 @@ fn plan_at<M: KeptMemory, K: KeyKind>(
                 old,
             },
             Standing::InSync(split),
-        ) => SplitTurn::of(view, split, turn).compare_swap(page, new, word, old),
+        ) => compare_swap::<K>(split, turn, page, new, word, old),
         // Two arms: tried as one, by `|` over cases that earlier arms took apart, the proof did not close.
         (Stage::Comparing { .. }, Standing::InLink(split)) => SplitTurn::of(
             view, split, turn,

@@ -1,5 +1,6 @@
 // The slots of a page: which keys stand in them.
 ghost use Rattle.std.specs.Prelude.{◌≡◌};
+ghost use Rattle.protocol.specs.Fields.{page_at};
 ghost use Rattle.protocol.specs.Search.{holds as slot_holds, found, live, live_from};
 ghost use Rattle.protocol.specs.Locate.{live_key, live_keys};
 
@@ -7,6 +8,7 @@ use crate::row::word;
 use memory::kept::KeptMemory;
 use protocol::layout::key_at;
 use protocol::rows::is_set;
+use protocol::table::Table;
 use std::array;
 
 // Those slots of a page whose bit is set.
@@ -31,6 +33,13 @@ impl<'a, M: KeptMemory> Slots<'a, M> {
         Slots::of(memory, page, 255)
     }
 
+    // The committed slots of the page.
+    pub fn committed(memory: &'a M, table: &Table, page: u8) -> Slots<'a, M>
+        ensures { (result.memory.now ≡ memory.now) × (result.page ≡ page) × (result.bits ≡ (page_at table.now page).committed) }
+    {
+        Slots::of(memory, page, table.page_at(page).committed)
+    }
+
     fn holds(&self, slot: u8, key: u64) -> bool
         ensures { result ≡ slot_holds (M.words self.now.memory.now) self.now.bits self.now.page key slot }
     {
@@ -43,12 +52,14 @@ impl<'a, M: KeptMemory> Slots<'a, M> {
     pub fn find(&self, key: u64) -> Option<u8>
         ensures { result ≡ found (M.words self.now.memory.now) self.now.bits self.now.page key }
     {
+        // The same slots by value: through `self` their page and memory are read again at each slot.
+        let slots = Slots::of(self.memory, self.page, self.bits);
         let mut slot = 0;
         loop {
             if slot >= 8 {
                 break None;
             }
-            if self.holds(slot, key) {
+            if slots.holds(slot, key) {
                 break Some(slot);
             }
             slot += 1;

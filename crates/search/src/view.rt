@@ -3,6 +3,7 @@ ghost use Rattle.std.specs.Prelude.{◌≡◌};
 ghost use Rattle.protocol.specs.Fields.{page_at};
 ghost use Rattle.protocol.specs.Search.{on_right, new_page, new_slot, ends_before, covering};
 
+use crate::new_pages::{goes_right, new_page, new_slot};
 use crate::row::word;
 use crate::slots::Slots;
 use keys::kind::KeyKind;
@@ -33,32 +34,28 @@ impl<'a, M: KeptMemory, K: KeyKind> View<'a, M, K> {
     pub fn committed(&self, page: u8) -> Slots<'a, M>
         ensures { (result.memory.now ≡ self.now.memory.now) × (result.page ≡ page) × (result.bits ≡ (page_at self.now.table.now page).committed) }
     {
-        Slots::of(self.memory, page, self.table.page_at(page).committed)
+        Slots::committed(self.memory, self.table, page)
     }
 
     // Whether the key's new page is the right one.
     pub fn goes_right(&self, split: Split, key: u64) -> bool
         ensures { result ≡ on_right K.before split key }
     {
-        split.right != 0 && !K::comes_before(key, split.key)
+        goes_right::<K>(split, key)
     }
 
     // A key's page among the new ones of a split.
     pub fn new_page(&self, split: Split, key: u64) -> u8
         ensures { result ≡ new_page K.before split key }
     {
-        if self.goes_right(split, key) {
-            split.right
-        } else {
-            split.left
-        }
+        new_page::<K>(split, key)
     }
 
     // The key's slot in its new page, whatever is committed there.
     pub fn new_slot(&self, split: Split, key: u64) -> Option<u8>
         ensures { result ≡ new_slot K.before (M.words self.now.memory.now) split key }
     {
-        Slots::all(self.memory, self.new_page(split, key)).find(key)
+        new_slot::<M, K>(self.memory, split, key)
     }
 
     fn ends_before(&self, key: u64, next: u8) -> bool
