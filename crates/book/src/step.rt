@@ -1,5 +1,6 @@
 // Step: a runner's next small step.
 ghost use Rattle.std.specs.Prelude.{◌≡◌, ◌-◌, Ok, Err, Some, None};
+ghost use Rattle.protocol.specs.Rebuild.{checked};
 ghost use Rattle.protocol.specs.Calls.{runner_refusal, stepped};
 
 use crate::book::Book;
@@ -13,7 +14,8 @@ use settle::{perform, settle};
 
 // Begin, step and collect want an open book, then a runner from 1 to the count given. The runner's number from 0.
 pub(crate) fn runner_index(table: &Table, runner: u32) -> Result<usize, Refusal>
-    ensures { elim result [ Ok i ↦ (i ≡ runner - 1) × (runner_refusal table.now runner ≡ None) | Err e ↦ runner_refusal table.now runner ≡ Some e ] }
+    ensures value { result ≡ checked (runner - 1) (runner_refusal table.now runner) }
+    ensures cases { elim result [ Ok i ↦ (i ≡ runner - 1) × (runner_refusal table.now runner ≡ None) | Err e ↦ runner_refusal table.now runner ≡ Some e ] }
 {
     if !table.opened {
         return Err(Refusal::Closed);

@@ -10,6 +10,11 @@ use Rattle.protocol.specs.Fields.{page_at, with_page}
 use Rattle.protocol.specs.Search.{is_this, found}
 use Rattle.protocol.specs.Make.{bare_table}
 
+-- What a check answers that is to give x: a refusal, if it finds one.
+abbrev pub checked : {A : Type 0} → A → Option Refusal → Result A Refusal
+checked x None = Ok x
+checked x (Some e) = Err e
+
 -- The row has the right length, and the runners are 1 to 8.
 abbrev pub size_refusal : List ℕ → ℕ → Option Refusal
 size_refusal ws n = cond (right_length ws) (cond (nat_le 1 n && nat_le n 8) None (Some WrongCount)) (Some WrongLength)

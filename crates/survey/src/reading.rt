@@ -1,6 +1,6 @@
 // The table that a rebuild finds in the row, which is checked whole and not written.
 ghost use Rattle.std.specs.Prelude.{◌≡◌, ◌<◌, Ok, Err, Some, None};
-ghost use Rattle.protocol.specs.Rebuild.{listing, chain_from, chained, low_before, low_rises, lows_from, lows_right, upper, in_range, placed, tallied, slots_from, with_tally, page_surveyed, pages_from, surveyed_list, surveyed, size_refusal};
+ghost use Rattle.protocol.specs.Rebuild.{listing, chain_from, chained, low_before, low_rises, lows_from, lows_right, upper, in_range, placed, tallied, slots_from, with_tally, page_surveyed, pages_from, surveyed_list, surveyed, size_refusal, checked};
 
 use keys::kind::KeyKind;
 use memory::kept::KeptMemory;
@@ -237,7 +237,8 @@ fn survey_list<M: KeptMemory, K: KeyKind>(memory: &M, count: u8) -> Result<Table
 
 // Refused where the row or the count of runners is not taken.
 pub fn check_size<M: KeptMemory>(memory: &M, runners: u32) -> Result<(), Refusal>
-    ensures { elim result [ Ok _ ↦ size_refusal (M.words memory.now) runners ≡ None | Err e ↦ size_refusal (M.words memory.now) runners ≡ Some e ] }
+    ensures value { result ≡ checked tt (size_refusal (M.words memory.now) runners) }
+    ensures cases { elim result [ Ok _ ↦ size_refusal (M.words memory.now) runners ≡ None | Err e ↦ size_refusal (M.words memory.now) runners ≡ Some e ] }
 {
     let count = memory.count();
     if count < 37 || (count - 1) % 18 != 0 || (count - 1) / 18 > 64 {
