@@ -32,12 +32,13 @@ fn rank_of<K: KeyKind>(keys: &[u64], key: u64) -> usize
     n
 }
 
-// The key with just half of the keys before it. A loop over the keys with their index, as above.
+// The key with just half of the `count` keys before it. A loop over the keys with their index, as above.
 #[tactic(auto, using(protocol::proofs::Ranks::ranked_more, protocol::proofs::Ranks::ranked_all))]
-fn parting_key<K: KeyKind>(keys: &[u64]) -> u64
+fn parting_key<K: KeyKind>(keys: &[u64], count: usize) -> u64
+    requires { count ≡ key_count keys.now }
     ensures { result ≡ split_key K.before keys.now }
 {
-    let half = count_keys(keys) / 2;
+    let half = count / 2;
     for (slot, key) in keys.iter().enumerate() {
         if *key != 0 && rank_of::<K>(keys, *key) == half {
             return keys[slot];
@@ -160,14 +161,15 @@ fn start_with<K: KeyKind>(table: &Table, pages: u8, index: usize, page: u8, keys
     requires { pages ≤ 64 }
     ensures { result ≡ starting_with K.before table.now pages index page keys.now }
 {
+    let count = count_keys(keys);
     let starter = Starter {
         table,
         pages,
         index,
         page,
-        key: parting_key::<K>(keys),
+        key: parting_key::<K>(keys, count),
     };
-    if count_keys(keys) <= 4 {
+    if count <= 4 {
         starter.into_one()
     } else {
         starter.into_two()
