@@ -2,6 +2,7 @@
 #![tactic(auto)]
 
 mod line;
+mod put;
 mod refusal;
 
 pub use line::AnswerLine;

@@ -1,9 +1,9 @@
 // The line that tells one answer: runner, words of the answer, value.
-ghost use Rattle.std.specs.Prelude.{◌≡◌, ◌≤◌, ◌↔◌, length, IsSome, IfSome, OnOk};
+ghost use Rattle.std.specs.Prelude.{◌≡◌, ◌≤◌, ◌↔◌, ◌++◌, length, drop, IsSome, IfSome, OnOk};
 ghost use Rattle.answers.specs.Line.{words, line, refused, answered, written, ReadsBack};
 
+use crate::put::put;
 use crate::refusal::Refusal;
-use arrayvec::ArrayString;
 use itoa::Buffer;
 
 // The bytes that a line is given. The longest has 27: the words take up to 13 and the value up to 10.
@@ -46,29 +46,27 @@ impl AnswerLine {
         if buffer.len() < ROOM {
             return Err(Refusal::ShortBuffer);
         }
-        let text = self.text(answer_words);
-        buffer[..text.len()].copy_from_slice(text.as_bytes());
-        Ok(text.len())
+        Ok(self.put_line(answer_words, buffer))
     }
 
-    // The text of a line that is not refused. It is pushed, since `write!` never promises success: with it the proof did not close.
-    #[tactic(auto, using(std::proofs::lemmas::Fmt::decimal_is_IsNumeral, std::proofs::lemmas::Fmt::decimal_digit))]
-    fn text(self, answer_words: &str) -> ArrayString<ROOM>
+    // The line of an answer that is not refused, piece by piece into the buffer. Not by way of an `ArrayString`: tried, and the second copy took twice as long.
+    #[tactic(auto, using(std::proofs::lemmas::Fmt::decimal_is_IsNumeral))]
+    fn put_line(self, answer_words: &str, buffer: &mut [u8]) -> usize
         requires runner { self.runner ≤ 8 }
         requires words { answer_words.now ≡ words self.answer }
         requires short { length answer_words.now ≤ 13 }
-        ensures bytes { result.bytes ≡ line self }
+        requires room { 32 ≤ length buffer.old }
+        ensures value { result ≡ length (line self) }
+        ensures after { buffer.new ≡ line self ++ drop (length (line self)) buffer.old }
         ensures same { ReadsBack self.value }
     {
         let mut numeral = Buffer::new();
-        let mut text = ArrayString::new();
-        text.push_str(numeral.format(self.runner as u8));
-        text.push(' ');
-        text.push_str(answer_words);
-        text.push(' ');
-        text.push_str(numeral.format(self.value));
-        text.push('\n');
-        text
+        let digits = numeral.format(self.value).as_bytes();
+        let mut at = put(buffer, 0, &[b'0' + self.runner as u8, b' ']);
+        at = put(buffer, at, answer_words.as_bytes());
+        at = put(buffer, at, b" ");
+        at = put(buffer, at, digits);
+        put(buffer, at, b"\n")
     }
 }
 
