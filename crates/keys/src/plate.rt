@@ -78,8 +78,10 @@ impl fmt::Display for PlateText {
     ghost output = { λ t. Some (flat_map encode_utf8 (shown t)) };
 
     fn fmt<W: fmt::Write>(&self, f: &mut fmt::Formatter<W>) -> fmt::Result {
+        // Not `write_char`, which looks at the four bytes of each character again.
+        let mut buffer = [0; 4];
         for b in self.bytes() {
-            f.write_char(char::from(*b))?;
+            f.write_str(char::from(*b).encode_utf8(&mut buffer))?;
         }
         Ok(())
     }

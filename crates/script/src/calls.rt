@@ -32,6 +32,11 @@ fn finish<M: KeptMemory, K: KeyKind>(book: &mut Book<M, K>, runner: u32) -> Resu
     Ok(u32::MAX)
 }
 
+// Zeros are written by the block: one by one, by `write!` or `write_char`, a long row of them takes twice as long as to push them.
+const ZEROS: &str = "00000000000000000000000000000000";
+
+const BLOCK: usize = 32;
+
 // The answer line, after the zeros that the script wrote before the runner's number.
 #[derive(Drop)]
 struct Collected {
@@ -41,9 +46,10 @@ struct Collected {
 
 impl fmt::Display for Collected {
     fn fmt<W: fmt::Write>(&self, f: &mut fmt::Formatter<W>) -> fmt::Result {
-        for _ in 0..self.zeros {
-            write!(f, "0")?;
+        for _ in 0..self.zeros / BLOCK {
+            f.write_str(ZEROS)?;
         }
+        f.write_str(ZEROS.get(..self.zeros % BLOCK).unwrap_or_default())?;
         write!(f, "{}", self.line)
     }
 }
@@ -56,12 +62,6 @@ fn collect<M: KeptMemory, K: KeyKind>(
     let (answer, value) = book.collect(runner)?;
     let line = AnswerText::of(runner, answer, value);
     Ok(Collected { zeros, line })
-}
-
-// What a rebuild would find.
-fn pairs<M: KeptMemory, K: KeyText>(book: &Book<M, K>) -> Result<PairsText<M, K>, Refusal> {
-    let table = book.survey(1)?;
-    Ok(PairsText::of(book.memory(), table))
 }
 
 // How many steps a runner took until it was answered.
@@ -85,12 +85,34 @@ fn tell<T: fmt::Display + Drop, E: fmt::Display + Drop>(
     }
 }
 
-// The same, of what gives nothing but that it was done.
+// The same, of what gives nothing but that it was done; not through `tell`, whose `{told}` takes longer than the text itself.
 pub(crate) fn tell_done<E: fmt::Display + Drop>(
     outcome: Result<(), E>,
     out: &mut String,
 ) -> Result<(), AllocError> {
-    tell(outcome.map(|()| "ok"), out)
+    match outcome {
+        Ok(()) => writeln!(out, "ok"),
+        Err(refusal) => writeln!(out, "{refusal}"),
+    }
+}
+
+// Prints what a rebuild would find. The table is lent to what prints it, and this and the next are not inlined: each place for a table in `perform` is cleared
+// for every line of a script.
+#[inline(never)]
+fn tell_pairs<M: KeptMemory, K: KeyText>(
+    book: &Book<M, K>,
+    out: &mut String,
+) -> Result<(), AllocError> {
+    match book.survey(1) {
+        Ok(table) => writeln!(out, "{}", PairsText::<M, K>::of(book.memory(), &table)),
+        Err(refusal) => writeln!(out, "{refusal}"),
+    }
+}
+
+// Prints the state of the book.
+#[inline(never)]
+fn show<M: KeptMemory, K: KeyText>(book: &Book<M, K>, out: &mut String) -> Result<(), AllocError> {
+    write!(out, "{}", TableText::<K>::of(book.table()))
 }
 
 // Does what a line asks for, and prints what comes of it. Lines that end a book's life do nothing here.
@@ -116,8 +138,8 @@ pub(crate) fn perform<M: KeptMemory, K: KeyText>(
         Command::Finish(runner) => tell(finish(book, runner).map(Steps), out),
         Command::Collect { runner, zeros } => tell(collect(book, runner, zeros), out),
         Command::Word(at) => tell(book.memory().load(at), out),
-        Command::Pairs => tell(pairs(book), out),
-        Command::Show => write!(out, "{}", TableText::<K>::of(book.table())),
+        Command::Pairs => tell_pairs(book, out),
+        Command::Show => show(book, out),
         Command::Unreadable(line) => writeln!(out, "unreadable {line}"),
         Command::Nothing
         | Command::Memory(..)

@@ -13,12 +13,12 @@ use values::value_word::value_of;
 #[derive(Drop)]
 pub(crate) struct PairsText<'a, M, K> {
     memory: &'a M,
-    table: Table,
+    table: &'a Table,
     kind: PhantomData<K>,
 }
 
 impl<'a, M: KeptMemory, K: KeyText> PairsText<'a, M, K> {
-    pub(crate) fn of(memory: &'a M, table: Table) -> PairsText<'a, M, K> {
+    pub(crate) fn of(memory: &'a M, table: &'a Table) -> PairsText<'a, M, K> {
         PairsText {
             memory,
             table,
@@ -37,7 +37,7 @@ impl<'a, M: KeptMemory, K: KeyText> PairsText<'a, M, K> {
 
 impl<M: KeptMemory, K: KeyText> fmt::Display for PairsText<'_, M, K> {
     fn fmt<W: fmt::Write>(&self, f: &mut fmt::Formatter<W>) -> fmt::Result {
-        let slots = Pages::of(&self.table).flat_map(|page| (0..8).map(move |slot| (page, slot)));
+        let slots = Pages::of(self.table).flat_map(|page| (0..8).map(move |slot| (page, slot)));
         // Saturating: tried as `+= 1` and by `count`, whose proofs did not close, since how many items a `flat_map` gives is not known.
         let mut count = 0u64;
         for (key, value) in slots.filter_map(|(page, slot)| self.pair_at(page, slot)) {
