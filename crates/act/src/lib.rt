@@ -3,6 +3,8 @@
 
 mod acting;
 mod splitting;
+#[cfg(test)]
+mod tests;
 
 pub use acting::act;
-pub use splitting::{SplitTurn, compare_swap};
+pub use splitting::{RowTurn, SplitTurn, compare_swap};

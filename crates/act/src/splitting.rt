@@ -19,20 +19,20 @@ use search::{Slots, View, new_page, new_slot};
 use std::marker::PhantomData;
 use values::value_word::cleared;
 
-// A turn of a runner whose page is splitting. All but an acting one is planned without the table.
+// A turn of a runner whose page is splitting, over the row alone. All but an acting one is planned without the table.
 #[derive(Drop)]
-pub struct SplitTurn<'a, M, K> {
+pub struct RowTurn<'a, M, K> {
     memory: &'a M,
     split: Split,
     turn: Turn,
     kind: PhantomData<K>,
 }
 
-impl<'a, M: KeptMemory, K: KeyKind> SplitTurn<'a, M, K> {
-    pub fn new(memory: &'a M, split: Split, turn: Turn) -> SplitTurn<'a, M, K>
+impl<'a, M: KeptMemory, K: KeyKind> RowTurn<'a, M, K> {
+    pub fn new(memory: &'a M, split: Split, turn: Turn) -> RowTurn<'a, M, K>
         ensures { (result.memory.now ≡ memory.now) × (result.split ≡ split) × (result.turn ≡ turn) }
     {
-        SplitTurn {
+        RowTurn {
             memory,
             split,
             turn,
@@ -41,10 +41,10 @@ impl<'a, M: KeptMemory, K: KeyKind> SplitTurn<'a, M, K> {
     }
 
     // The same, from what the step sees.
-    pub fn of(view: &View<'a, M, K>, split: Split, turn: Turn) -> SplitTurn<'a, M, K>
+    pub fn of(view: &View<'a, M, K>, split: Split, turn: Turn) -> RowTurn<'a, M, K>
         ensures { (result.memory.now ≡ view.now.memory.now) × (result.split ≡ split) × (result.turn ≡ turn) }
     {
-        SplitTurn::new(view.memory, split, turn)
+        RowTurn::new(view.memory, split, turn)
     }
 
     fn sync_found(&self, page: u8, slot: u8, operation: Operation) -> Move
@@ -230,4 +230,68 @@ pub fn compare_swap<K: KeyKind>(
         Access::Swap(at, word, cleared(old)),
         Stage::Reading { page },
     )
+}
+
+// The same turn with all that the step sees: one who is handed it needs no table beside it. Planning goes by `RowTurn`.
+#[derive(Drop)]
+pub struct SplitTurn<'v, 'a, M, K> {
+    view: &'v View<'a, M, K>,
+    split: Split,
+    turn: Turn,
+}
+
+impl<'v, 'a, M: KeptMemory, K: KeyKind> SplitTurn<'v, 'a, M, K> {
+    pub fn of(view: &'v View<'a, M, K>, split: Split, turn: Turn) -> SplitTurn<'v, 'a, M, K>
+        ensures { (result.view.now ≡ view.now) × (result.split ≡ split) × (result.turn ≡ turn) }
+    {
+        SplitTurn { view, split, turn }
+    }
+
+    fn row(&self) -> RowTurn<'a, M, K>
+        ensures { (result.memory.now ≡ self.now.view.now.memory.now) × (result.split ≡ self.now.split) × (result.turn ≡ self.now.turn) }
+    {
+        RowTurn::of(self.view, self.split, self.turn)
+    }
+
+    // In the sync phase of the page.
+    pub fn act_in_sync(&self, page: u8) -> Move
+        ensures { result ≡ acting_in_sync K.before (M.words self.now.view.now.memory.now) self.now.view.now.table.now self.now.split self.now.turn.index self.now.turn.runner page }
+    {
+        self.row().act_in_sync(self.view.table, page)
+    }
+
+    // Loads the new word to answer its value; not there if the key is gone.
+    pub fn read(&self) -> Move
+        ensures { result ≡ reading K.before (M.words self.now.view.now.memory.now) self.now.split self.now.turn.index self.now.turn.runner }
+    {
+        self.row().read()
+    }
+
+    // In the link phase of the page.
+    pub fn act_in_link(&self) -> Move
+        ensures { result ≡ acting_in_link K.before (M.words self.now.view.now.memory.now) self.now.split self.now.turn.index self.now.turn.runner }
+    {
+        self.row().act_in_link()
+    }
+
+    // The next step of a pending change or remove.
+    pub fn pend(&self) -> Move
+        ensures { result ≡ pending K.before (M.words self.now.view.now.memory.now) self.now.split self.now.turn.index self.now.turn.runner }
+    {
+        self.row().pend()
+    }
+
+    // The first step of a comparing look.
+    pub fn compare(&self, page: u8, old: u64) -> Move
+        ensures { result ≡ comparing K.before (M.words self.now.view.now.memory.now) self.now.split self.now.turn.index self.now.turn.runner page old }
+    {
+        self.row().compare(page, old)
+    }
+
+    // Its second step.
+    pub fn compare_swap(&self, page: u8, new: u8, word: u64, old: u64) -> Move
+        ensures { result ≡ comparing_swap K.before self.now.split self.now.turn.index self.now.turn.runner page new «word» old }
+    {
+        compare_swap::<K>(self.split, self.turn, page, new, word, old)
+    }
 }

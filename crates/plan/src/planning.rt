@@ -3,7 +3,7 @@ ghost use Rattle.std.specs.Prelude.{◌≡◌};
 ghost use Rattle.protocol.specs.Plan.{helping, commits, planned_at, planned};
 
 use crate::splitting::SplitStep;
-use act::{SplitTurn, act, compare_swap};
+use act::{RowTurn, act, compare_swap};
 use keys::kind::KeyKind;
 use locate::locate;
 use memory::kept::KeptMemory;
@@ -82,10 +82,10 @@ fn plan_at<M: KeptMemory, K: KeyKind>(
             turn,
             page,
         ),
-        (Stage::Acting { page }, Standing::InSync(split)) => SplitTurn::of(
+        (Stage::Acting { page }, Standing::InSync(split)) => RowTurn::of(
             view, split, turn,
         ).act_in_sync(view.table, page),
-        (Stage::Acting { .. }, Standing::InLink(split)) => SplitTurn::of(
+        (Stage::Acting { .. }, Standing::InLink(split)) => RowTurn::of(
             view, split, turn,
         ).act_in_link(),
         (
@@ -94,8 +94,8 @@ fn plan_at<M: KeptMemory, K: KeyKind>(
             | Stage::PendingSwap { .. }
             | Stage::PendingRemove { .. },
             Standing::InSync(split) | Standing::InLink(split),
-        ) => SplitTurn::of(view, split, turn).pend(),
-        (Stage::Comparing { page, old }, Standing::InSync(split)) => SplitTurn::of(
+        ) => RowTurn::of(view, split, turn).pend(),
+        (Stage::Comparing { page, old }, Standing::InSync(split)) => RowTurn::of(
             view, split, turn,
         ).compare(page, old),
         (
@@ -108,13 +108,11 @@ fn plan_at<M: KeptMemory, K: KeyKind>(
             Standing::InSync(split),
         ) => compare_swap::<K>(split, turn, page, new, word, old),
         // Two arms: tried as one, by `|` over cases that earlier arms took apart, the proof did not close.
-        (Stage::Comparing { .. }, Standing::InLink(split)) => SplitTurn::of(
+        (Stage::Comparing { .. }, Standing::InLink(split)) => RowTurn::of(view, split, turn).read(),
+        (Stage::ComparingSwap { .. }, Standing::InLink(split)) => RowTurn::of(
             view, split, turn,
         ).read(),
-        (Stage::ComparingSwap { .. }, Standing::InLink(split)) => SplitTurn::of(
-            view, split, turn,
-        ).read(),
-        (Stage::Reading { .. }, Standing::InSync(split) | Standing::InLink(split)) => SplitTurn::of(
+        (Stage::Reading { .. }, Standing::InSync(split) | Standing::InLink(split)) => RowTurn::of(
             view, split, turn,
         ).read(),
         _ => locate(view, turn),

@@ -6,7 +6,7 @@ ghost use Rattle.protocol.specs.declared.moves.TableNext.TheVariants.{Go};
 ghost use Rattle.protocol.specs.Search.{new_page, live_from, standing_from, preceding, first_pending};
 ghost use Rattle.protocol.specs.Split.{steps, stores, clearing_at, clearing_after, old_next, left_next, copying, new_count, copied, syncing_slot, syncing, link_at, linking, split_step_at, split_step};
 
-use act::SplitTurn;
+use act::RowTurn;
 use keys::kind::KeyKind;
 use memory::kept::KeptMemory;
 use protocol::layout::{key_at, low_at, next_at, value_at};
@@ -188,7 +188,7 @@ impl<'v, 'a, M: KeptMemory, K: KeyKind> SplitStep<'v, 'a, M, K> {
             Some(index) => {
                 let runner = view.table.runner_at(index);
                 let turn = Turn { index, runner };
-                SplitTurn::of(view, split, turn).pend()
+                RowTurn::of(view, split, turn).pend()
             }
             None => next,
         }
