@@ -27,42 +27,70 @@ use Rattle.laws.proofs.Links.{links_same}
 use Rattle.laws.proofs.ListFinish.{finished_links}
 use Rattle.laws.proofs.Tables.{page_with, runner_with}
 
--- A runner that held h may come to hold no page (page 0 is none), a listed one, or what it held.
+-- A runner that held h may come to hold no page, a listed one, or what it held.
 
 abbrev pub Hold : Table → Option ℕ → Option ℕ → Type 0
 Hold t h None = Unit {0}
-Hold t h (Some p) = (p ≡ 0) ⊎ ((listed t p ≡ true) ⊎ (Some p ≡ h))
+Hold t h (Some p) = (listed t p ≡ true) ⊎ (Some p ≡ h)
 
 pub hold_same : (t : Table) (h : Option ℕ) → Hold t h h
 hold_same t None = tt
-hold_same t (Some p) = inr (inr refl)
+hold_same t (Some p) = inr refl
 
-pub hold_none : (t : Table) (h o : Option ℕ) → unwrap_or o 0 ≡ 0 → Hold t h o
+-- The same where page 0 is none. So much is enough to keep the list.
+
+abbrev pub HoldOrNone : Table → Option ℕ → Option ℕ → Type 0
+HoldOrNone t h None = Unit {0}
+HoldOrNone t h (Some p) = (p ≡ 0) ⊎ ((listed t p ≡ true) ⊎ (Some p ≡ h))
+
+pub hold_none : (t : Table) (h o : Option ℕ) → unwrap_or o 0 ≡ 0 → HoldOrNone t h o
 hold_none t h None e = tt
 hold_none t h (Some p) e = inl e
 
-abbrev pub OwnHolds : Table → Option ℕ → RunnerNext → Type 0
-OwnHolds t h own.Stay = Unit {0}
-OwnHolds t h (own.Go g) = Hold t h (held g)
-OwnHolds t h own.AnswerLoaded = Unit {0}
-OwnHolds t h (own.CompareLoaded p) = Hold t h (Some p)
-OwnHolds t h (own.JudgeLoaded p n o) = Hold t h (Some p)
-OwnHolds t h (own.PendLoaded p i n) = Hold t h (Some p)
-OwnHolds t h (own.WeighLoaded p i n w) = Hold t h (Some p)
-OwnHolds t h (own.BySwap a b) = Hold t h (held a) × Hold t h (held b)
+pub hold_or_none : (t : Table) (h o : Option ℕ) → Hold t h o → HoldOrNone t h o
+hold_or_none t h None k = tt
+hold_or_none t h (Some p) k = inr k
 
-stage_holds : (t : Table) (g : Stage) (m : RunnerNext) (o : Outcome) → OwnHolds t (held g) m → Hold t (held g) (held (stage_after g m o))
-stage_holds t g own.Stay o h = hold_same t (held g)
-stage_holds t g (own.Go n) o h = h
-stage_holds t g own.AnswerLoaded o h = tt
-stage_holds t g (own.CompareLoaded p) o h = h
-stage_holds t g (own.JudgeLoaded p n old) o h =
+-- What a runner may come to hold by a move is H.
+
+abbrev pub OwnHoldsAs : (Option ℕ → Type 0) → RunnerNext → Type 0
+OwnHoldsAs H own.Stay = Unit {0}
+OwnHoldsAs H (own.Go g) = H (held g)
+OwnHoldsAs H own.AnswerLoaded = Unit {0}
+OwnHoldsAs H (own.CompareLoaded p) = H (Some p)
+OwnHoldsAs H (own.JudgeLoaded p n o) = H (Some p)
+OwnHoldsAs H (own.PendLoaded p i n) = H (Some p)
+OwnHoldsAs H (own.WeighLoaded p i n w) = H (Some p)
+OwnHoldsAs H (own.BySwap a b) = H (held a) × H (held b)
+
+abbrev pub OwnHolds : Table → Option ℕ → RunnerNext → Type 0
+OwnHolds t h = OwnHoldsAs (Hold t h)
+
+abbrev pub OwnHoldsOrNone : Table → Option ℕ → RunnerNext → Type 0
+OwnHoldsOrNone t h = OwnHoldsAs (HoldOrNone t h)
+
+own_as : (G H : Option ℕ → Type 0) → ((o : Option ℕ) → G o → H o) → (m : RunnerNext) → OwnHoldsAs G m → OwnHoldsAs H m
+own_as G H f own.Stay k = tt
+own_as G H f (own.Go g) k = f (held g) k
+own_as G H f own.AnswerLoaded k = tt
+own_as G H f (own.CompareLoaded p) k = f (Some p) k
+own_as G H f (own.JudgeLoaded p n o) k = f (Some p) k
+own_as G H f (own.PendLoaded p i n) k = f (Some p) k
+own_as G H f (own.WeighLoaded p i n w) k = f (Some p) k
+own_as G H f (own.BySwap a b) k = (f (held a) k.0, f (held b) k.1)
+
+stage_holds : (H : Option ℕ → Type 0) (g : Stage) (m : RunnerNext) (o : Outcome) → H None → H (held g) → OwnHoldsAs H m → H (held (stage_after g m o))
+stage_holds H g own.Stay o n k h = k
+stage_holds H g (own.Go a) o n k h = h
+stage_holds H g own.AnswerLoaded o n k h = n
+stage_holds H g (own.CompareLoaded p) o n k h = h
+stage_holds H g (own.JudgeLoaded p i old) o n k h =
     let w = loaded_word o in
-    cond_both (not (mark_of w) || same w old) (Answered Done (value_of w)) (ComparingSwap p n w old) (λ k. Hold t (held g) (held k)) (λ _. tt) (λ _. h)
-stage_holds t g (own.PendLoaded p i n) o h = h
-stage_holds t g (own.WeighLoaded p i n w) o h =
-    cond_both (same (loaded_word o) w) (Answered Done 0) (PendingSwap p i n w (loaded_word o)) (λ k. Hold t (held g) (held k)) (λ _. tt) (λ _. h)
-stage_holds t g (own.BySwap a b) o h = cond_both (did_swap o) a b (λ k. Hold t (held g) (held k)) (λ _. h.0) (λ _. h.1)
+    cond_both (not (mark_of w) || same w old) (Answered Done (value_of w)) (ComparingSwap p i w old) (λ a. H (held a)) (λ _. n) (λ _. h)
+stage_holds H g (own.PendLoaded p i j) o n k h = h
+stage_holds H g (own.WeighLoaded p i j w) o n k h =
+    cond_both (same (loaded_word o) w) (Answered Done 0) (PendingSwap p i j w (loaded_word o)) (λ a. H (held a)) (λ _. n) (λ _. h)
+stage_holds H g (own.BySwap a b) o n k h = cond_both (did_swap o) a b (λ c. H (held c)) (λ _. h.0) (λ _. h.1)
 
 -- The split's pages stay apart.
 
@@ -80,9 +108,17 @@ RestHolds t (rest.Finish s) = Apart t s
 abbrev pub MoveHolds : Table → Move → Type 0
 MoveHolds t m = OwnHolds t (held (runner_at t m.runner).stage) m.own × RestHolds t m.rest
 
+abbrev pub MoveHoldsOrNone : Table → Move → Type 0
+MoveHoldsOrNone t m = OwnHoldsOrNone t (held (runner_at t m.runner).stage) m.own × RestHolds t m.rest
+
+pub move_or_none : (t : Table) (m : Move) → MoveHolds t m → MoveHoldsOrNone t m
+move_or_none t m h =
+    let o = held (runner_at t m.runner).stage in
+    (own_as (Hold t o) (HoldOrNone t o) (hold_or_none t o) m.own h.0, h.1)
+
 -- after the runner's record is written
 
-unused_runner : (t : Table) (i : ℕ) (x : Runner) (p : ℕ) → Hold t (held (runner_at t i).stage) (held x.stage) → Unused t p → Unused (with_runner t i x) p
+unused_runner : (t : Table) (i : ℕ) (x : Runner) (p : ℕ) → HoldOrNone t (held (runner_at t i).stage) (held x.stage) → Unused t p → Unused (with_runner t i x) p
 unused_runner t i x p h U =
     record {
       real = U.real;
@@ -95,7 +131,7 @@ unused_runner t i x p h U =
           (runner_with t i x j);
     }
 
-pub apart_runner : (t : Table) (i : ℕ) (x : Runner) (s : Split) → Hold t (held (runner_at t i).stage) (held x.stage) → Apart t s → Apart (with_runner t i x) s
+pub apart_runner : (t : Table) (i : ℕ) (x : Runner) (s : Split) → HoldOrNone t (held (runner_at t i).stage) (held x.stage) → Apart t s → Apart (with_runner t i x) s
 apart_runner t i x s h A =
     record { old = A.old; left = unused_runner t i x s.left h A.left; right = λ n. unused_runner t i x s.right h (A.right n); two = A.two }
 
@@ -173,11 +209,12 @@ rest_listed t (rest.Finish s) o W G h =
     let H = finished_links t s G.place G.prev G.links W h in
     record { place = H.place; prev = H.prev; links = H.links; apart = λ u e. none_is_some e }
 
-pub move_listed : (t : Table) (m : Move) (o : Outcome) → WholeArrays t → WellListed t → MoveHolds t m → WellListed (settled t m o)
+pub move_listed : (t : Table) (m : Move) (o : Outcome) → WholeArrays t → WellListed t → MoveHoldsOrNone t m → WellListed (settled t m o)
 move_listed t m o W G h =
     let i = m.runner in
     let x : Runner = with_stage (runner_at t i) (stage_after (runner_at t i).stage m.own o) in
-    let k = stage_holds t (runner_at t i).stage m.own o h.0 in
+    let g = (runner_at t i).stage in
+    let k = stage_holds (HoldOrNone t (held g)) g m.own o tt (hold_or_none t (held g) (held g) (hold_same t (held g))) h.0 in
     let u = with_runner t i x in
     let to : (s : Split) → Apart t s → Apart u s = λ s. apart_runner t i x s k in
     rest_listed u m.rest o (runner_whole t i x W) (record { place = G.place; prev = G.prev; links = G.links; apart = λ s e. to s (G.apart s e) }) (rest_runner t u m.rest to h.1)

@@ -48,9 +48,9 @@ module _ (t : Table) (r : ℕ) where
 
   syncing_found_holds : (x : Runner) (p i : ℕ) (o : Operation) → Some p ≡ own_page → MoveHolds t (syncing_found r x p i o)
   syncing_found_holds x p i Enter h = (tt, tt)
-  syncing_found_holds x p i Change h = (inr (inr h), tt)
-  syncing_found_holds x p i Remove h = (inr (inr h), tt)
-  syncing_found_holds x p i Look h = (inr (inr h), tt)
+  syncing_found_holds x p i Change h = (inr h, tt)
+  syncing_found_holds x p i Remove h = (inr h, tt)
+  syncing_found_holds x p i Look h = (inr h, tt)
 
   syncing_page_holds : (before : ℕ → ℕ → Bool) (ws : List ℕ) (s : Split) (x : Runner) (p : ℕ) (o : Option ℕ) → Some p ≡ own_page → MoveHolds t (syncing_page before ws s r x p o)
   syncing_page_holds before ws s x p None h = clearing_holds (new_page before s x.key) NotThere (new_slot before ws s x.key)
@@ -71,7 +71,7 @@ module _ (t : Table) (r : ℕ) where
 
   pending_new_holds : (q p i : ℕ) (o : Option ℕ) → Some p ≡ own_page → MoveHolds t (pending_new r q p i o)
   pending_new_holds q p i None h = (tt, tt)
-  pending_new_holds q p i (Some n) h = (inr (inr h), tt)
+  pending_new_holds q p i (Some n) h = (inr h, tt)
 
   pending_holds : (before : ℕ → ℕ → Bool) (ws : List ℕ) (s : Split) (x : Runner) (g : Stage) → held g ≡ own_page → MoveHolds t (pending_at before ws s r x g)
   pending_holds before ws s x Idle h = (tt, tt)
@@ -82,8 +82,8 @@ module _ (t : Table) (r : ℕ) where
   pending_holds before ws s x Helping h = (tt, tt)
   pending_holds before ws s x (Acting p) h = (tt, tt)
   pending_holds before ws s x (PendingNew p i) h = pending_new_holds (new_page before s x.key) p i (new_slot before ws s x.key) h
-  pending_holds before ws s x (PendingOld p i n w) h = (inr (inr h), tt)
-  pending_holds before ws s x (PendingSwap p i n w o) h = ((tt, inr (inr h)), tt)
+  pending_holds before ws s x (PendingOld p i n w) h = (inr h, tt)
+  pending_holds before ws s x (PendingSwap p i n w o) h = ((tt, inr h), tt)
   pending_holds before ws s x (PendingRemove p) h = clearing_holds (new_page before s x.key) Done (new_slot before ws s x.key)
   pending_holds before ws s x (Comparing p o) h = (tt, tt)
   pending_holds before ws s x (ComparingSwap p n w o) h = (tt, tt)
@@ -92,7 +92,7 @@ module _ (t : Table) (r : ℕ) where
 
   comparing_slot_holds : (q p o : ℕ) (n : Option ℕ) → Some p ≡ own_page → MoveHolds t (comparing_slot r q p o n)
   comparing_slot_holds q p o None h = (tt, tt)
-  comparing_slot_holds q p o (Some n) h = (inr (inr h), tt)
+  comparing_slot_holds q p o (Some n) h = (inr h, tt)
 
   writing_holds : (m : Move) (u : Standing) → MoveHolds t m → MoveHolds t (writing r m u)
   writing_holds m Whole h = h
@@ -165,7 +165,7 @@ module _ (before : ℕ → ℕ → Bool) (ws : List ℕ) (t : Table) (r : ℕ) (
   comparing_swap_in_holds : (p n w o : ℕ) (u : Standing) → Some p ≡ own_page t r → MoveHolds t (comparing_swap_in before ws t r x p n w o u)
   comparing_swap_in_holds p n w o Whole h = locating_holds before ws t G r x
   comparing_swap_in_holds p n w o InCopy h = locating_holds before ws t G r x
-  comparing_swap_in_holds p n w o (InSync s) h = (inr (inr h), tt)
+  comparing_swap_in_holds p n w o (InSync s) h = (inr h, tt)
   comparing_swap_in_holds p n w o (InLink s) h = reading_holds t r before ws s x
   comparing_swap_in_holds p n w o Left h = locating_holds before ws t G r x
 
@@ -179,8 +179,8 @@ module _ (before : ℕ → ℕ → Bool) (ws : List ℕ) (t : Table) (r : ℕ) (
   planned_at_holds : (g : Stage) (u : Standing) → held x.stage ≡ own_page t r → held g ≡ own_page t r → MoveHolds t (planned_at before ws t r x g u)
   planned_at_holds Idle u k h = (tt, tt)
   planned_at_holds Locating u k h = locating_holds before ws t G r x
-  planned_at_holds (WritingValue p i) u k h = writing_holds t r _ u (inr (inr h), tt)
-  planned_at_holds (WritingKey p i) u k h = writing_holds t r _ u (inr (inr h), tt)
+  planned_at_holds (WritingValue p i) u k h = writing_holds t r _ u (inr h, tt)
+  planned_at_holds (WritingKey p i) u k h = writing_holds t r _ u (inr h, tt)
   planned_at_holds (Committing p i) u k h = writing_holds t r _ u (tt, tt)
   planned_at_holds Helping u k h = helping_holds before ws t r x t.split G G.apart
   planned_at_holds (Acting p) u k h = acting_in_holds p u h

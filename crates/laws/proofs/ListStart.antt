@@ -1,5 +1,5 @@
 -- Locating and the start of a split: the covering page is listed, and the pages that a split takes are unused, and two.
-use Rattle.std.proofs.Common.{◌≡◌, ℕ, zero, suc, ◌+◌, ◌-◌, ◌*◌, ◌/◌, ◌%◌, ◌<◌, ◌≤◌, Bool, true, false, ltb, leb, ◌≢◌, List, Some, None, Option, sym, refl, ap, ◌∙◌, inl, inr, ⊎_elim, mul-le-mul_left, mul-suc, arith}
+use Rattle.std.proofs.Common.{◌≡◌, ℕ, zero, suc, ◌+◌, ◌-◌, ◌*◌, ◌/◌, ◌%◌, ◌<◌, ◌≤◌, Bool, true, false, ltb, leb, ◌≢◌, List, Some, None, Option, sym, refl, ap, ◌∙◌, inl, ⊎_elim, mul-le-mul_left, mul-suc, arith}
 use native.Mathlib.Nat.{mod-add-div}
 use Rattle.std.proofs.lemmas.Nat.{mod_below}
 use Rattle.std.proofs.lemmas.Bool.{cond_both, and_parts, not-true, both_ways, cases_lt, eq-eqb}
@@ -120,7 +120,7 @@ module _ (before : ℕ → ℕ → Bool) (ws : List ℕ) (t : Table) (G : WellLi
   entering_page_holds p (Some i) o = (tt, tt)
   entering_page_holds p None o =
       cond_both (ltb (page_at t p).taken 8) (takes t r p) (crowded before ws t r p t.split) (MoveHolds t)
-      (λ _. (inr (inl o), tt))
+      (λ _. (inl o, tt))
       (λ _. crowded_holds p t.split o)
 
   entering_holds : (k p : ℕ) (u : Standing) → listed t p ≡ true → MoveHolds t (entering before ws t r k p u)
@@ -132,9 +132,9 @@ module _ (before : ℕ → ℕ → Bool) (ws : List ℕ) (t : Table) (G : WellLi
 
   locating_page_holds : (k p : ℕ) (m : Operation) → listed t p ≡ true → MoveHolds t (locating_page before ws t r k p m)
   locating_page_holds k p Enter o = entering_holds k p (standing t p) o
-  locating_page_holds k p Change o = (inr (inl o), tt)
-  locating_page_holds k p Remove o = (inr (inl o), tt)
-  locating_page_holds k p Look o = (inr (inl o), tt)
+  locating_page_holds k p Change o = (inl o, tt)
+  locating_page_holds k p Remove o = (inl o, tt)
+  locating_page_holds k p Look o = (inl o, tt)
 
   pub locating_holds : (x : Runner) → MoveHolds t (locating before ws t r x)
   locating_holds x = locating_page_holds x.key (covering before ws t x.key) x.operation (covering_listed before ws t x.key G)

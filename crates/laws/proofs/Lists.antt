@@ -16,7 +16,7 @@ use Rattle.laws.specs.Lists.{WellListed, ListedIfOpen, CallsKeepLists}
 use Rattle.laws.proofs.Arrays.{runner_whole, page_whole, bare_whole, begun_whole, tally_whole, settled_whole}
 use Rattle.laws.proofs.Calls.{FoundSo, begun_keeps, collected_keeps, stepped_keeps, made_keeps, chained_keeps, rebuilt_keeps}
 use Rattle.laws.proofs.Fitting.{none_is_some}
-use Rattle.laws.proofs.ListHolds.{hold_none, apart_runner, apart_as, move_listed}
+use Rattle.laws.proofs.ListHolds.{hold_none, apart_runner, apart_as, move_or_none, move_listed}
 use Rattle.laws.proofs.ListMoves.{planned_holds}
 use Rattle.laws.proofs.ListStart.{covering_listed}
 use Rattle.laws.proofs.ListRebuild.{JustListed, chained_lists, tally_lists, made_lists}
@@ -64,7 +64,7 @@ calls_keep_lists =
           stepped_keeps ListedIfOpen before ws t r O
           (λ e.
           let m = planned before ws t (r - 1) (runner_at t (r - 1)) in
-          record { arrays = settled_whole t m _ O.arrays; list = λ _. move_listed t m _ O.arrays (O.list e) (planned_holds before ws t (r - 1) (O.list e)) });
+          record { arrays = settled_whole t m _ O.arrays; list = λ _. move_listed t m _ O.arrays (O.list e) (move_or_none t m (planned_holds before ws t (r - 1) (O.list e))) });
       collect = λ t r O.
           collected_keeps ListedIfOpen t r O (record { arrays = runner_whole t (r - 1) idle_runner O.arrays; list = λ e. let_go t (r - 1) idle_runner refl (O.list e) });
       covering = covering_listed;
