@@ -51,6 +51,9 @@ pub hold_or_none : (t : Table) (h o : Option ℕ) → Hold t h o → HoldOrNone 
 hold_or_none t h None k = tt
 hold_or_none t h (Some p) k = inr k
 
+pub same_or_none : (t : Table) (h : Option ℕ) → HoldOrNone t h h
+same_or_none t h = hold_or_none t h h (hold_same t h)
+
 -- What a runner may come to hold by a move is H.
 
 abbrev pub OwnHoldsAs : (Option ℕ → Type 0) → RunnerNext → Type 0
@@ -212,9 +215,9 @@ rest_listed t (rest.Finish s) o W G h =
 pub move_listed : (t : Table) (m : Move) (o : Outcome) → WholeArrays t → WellListed t → MoveHoldsOrNone t m → WellListed (settled t m o)
 move_listed t m o W G h =
     let i = m.runner in
-    let x : Runner = with_stage (runner_at t i) (stage_after (runner_at t i).stage m.own o) in
     let g = (runner_at t i).stage in
-    let k = stage_holds (HoldOrNone t (held g)) g m.own o tt (hold_or_none t (held g) (held g) (hold_same t (held g))) h.0 in
+    let x : Runner = with_stage (runner_at t i) (stage_after g m.own o) in
+    let k = stage_holds (HoldOrNone t (held g)) g m.own o tt (same_or_none t (held g)) h.0 in
     let u = with_runner t i x in
     let to : (s : Split) → Apart t s → Apart u s = λ s. apart_runner t i x s k in
     rest_listed u m.rest o (runner_whole t i x W) (record { place = G.place; prev = G.prev; links = G.links; apart = λ s e. to s (G.apart s e) }) (rest_runner t u m.rest to h.1)

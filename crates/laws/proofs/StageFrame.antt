@@ -26,7 +26,7 @@ use Rattle.laws.specs.Stages.{past_copy, unlinked, may_pend, may_compare, agrees
 use Rattle.laws.proofs.Arrays.{linked_whole, new_pages_whole, runner_whole}
 use Rattle.laws.proofs.Fitting.{taken_listed, committed_listed}
 use Rattle.laws.proofs.ListFinish.{link_read, listed_row}
-use Rattle.laws.proofs.ListHolds.{hold_same, hold_or_none, apart_runner, row_same, taken_next, committed_next}
+use Rattle.laws.proofs.ListHolds.{same_or_none, apart_runner, row_same, taken_next, committed_next}
 use Rattle.laws.proofs.Tables.{page_with, runner_with}
 
 -- the runner's own new stage
@@ -235,9 +235,7 @@ goes_with : (t : Table) (r : ℕ) (x : Runner) (u : Split) → x.stage ≡ (runn
 goes_with t r x u e W = record { from = W.from; here = W.here; old = W.old; past = W.past; pend = λ i h. W.pend i (rw (stays t r x i e) at h) }
 
 apart_with : (t : Table) (r : ℕ) (x : Runner) (s : Split) → x.stage ≡ (runner_at t r).stage → Apart t s → Apart (with_runner t r x) s
-apart_with t r x s e A =
-    let h = held (runner_at t r).stage in
-    apart_runner t r x s (rw e (hold_or_none t h h (hold_same t h))) A
+apart_with t r x s e A = apart_runner t r x s (rw e (same_or_none t (held (runner_at t r).stage))) A
 
 rest_with : (t : Table) (r : ℕ) (x : Runner) (n : RunnerNext) (m : TableNext) → (n ≡ own.Stay → x.stage ≡ (runner_at t r).stage) → RestAgrees t n m → RestAgrees (with_runner t r x) own.Stay m
 rest_with t r x n rest.Stay f h = tt
