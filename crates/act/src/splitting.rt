@@ -247,6 +247,7 @@ impl<'v, 'a, M: KeptMemory, K: KeyKind> SplitTurn<'v, 'a, M, K> {
         SplitTurn { view, split, turn }
     }
 
+    // The turn over the row alone, which answers for this one.
     fn row(&self) -> RowTurn<'a, M, K>
         ensures { (result.memory.now ≡ self.now.view.now.memory.now) × (result.split ≡ self.now.split) × (result.turn ≡ self.now.turn) }
     {
